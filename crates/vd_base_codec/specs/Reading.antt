@@ -2,8 +2,8 @@
 use Rattle.std.specs.Prelude.{◌≡◌, ◌==◌, ℕ, zero, suc, ◌+◌, ◌*◌, ◌-◌, Bool, ◌&&◌, List, [], ◌∷◌, Option, Some, None, Result, Ok, Err, nat_le, nat_lt, min, decimal, if◌then◌else◌}
 use Rattle.vd_base.specs.Lexical.{is_digit}
 use Rattle.vd_base_codec.specs.declared.fault.Stopped.{Stopped}
-use Rattle.vd_base_codec.specs.declared.fault.ReadFault.{ReadFault}
-use Rattle.vd_base_codec.specs.declared.fault.ReadFault.TheVariants as fault
+use Rattle.vd_base_codec.specs.declared.fault.CodecFault.{CodecFault}
+use Rattle.vd_base_codec.specs.declared.fault.CodecFault.TheVariants as fault
 
 -- the next byte, if there is one
 abbrev pub first : List ℕ → Option ℕ
@@ -24,12 +24,12 @@ abbrev pub Gives : {X : Type 0} → Result X Stopped → List ℕ → Reading X 
 Gives (Ok x) left reading = reading ≡ Ok (x, left)
 Gives (Err _) left reading = reading ≡ Err left
 
-abbrev pub StopsOrMemory : {X : Type 0} → ReadFault → List ℕ → Reading X → Type 0
+abbrev pub StopsOrMemory : {X : Type 0} → CodecFault → List ℕ → Reading X → Type 0
 StopsOrMemory fault.Stopped left reading = reading ≡ Err left
 StopsOrMemory fault.Memory left reading = Unit {0}
 
 -- The same, unless memory runs out.
-abbrev pub GivesOrMemory : {X : Type 0} → Result X ReadFault → List ℕ → Reading X → Type 0
+abbrev pub GivesOrMemory : {X : Type 0} → Result X CodecFault → List ℕ → Reading X → Type 0
 GivesOrMemory (Ok x) left reading = reading ≡ Ok (x, left)
 GivesOrMemory (Err why) left reading = StopsOrMemory why left reading
 

@@ -1,7 +1,7 @@
 //! Why nothing was read.
 
 ghost use Rattle.std.specs.Prelude.{◌≡◌};
-ghost use Rattle.vd_base_codec.specs.declared.fault.ReadFault.TheVariants as read_fault;
+ghost use Rattle.vd_base_codec.specs.declared.fault.CodecFault.TheVariants as codec_fault;
 
 use std::alloc::{AllocError, AllocFailed};
 use thiserror::Error;
@@ -13,7 +13,7 @@ pub struct Stopped;
 
 /// Why a part of a file was not read.
 #[derive(Clone, Copy, PartialEq, Eq, Debug, Error)]
-pub enum ReadFault {
+pub enum CodecFault {
     /// The byte at the cursor cannot stand there, or the bytes end where none can end.
     #[error("the bytes do not go on as a text does")]
     Stopped,
@@ -22,26 +22,26 @@ pub enum ReadFault {
     Memory,
 }
 
-impl From<Stopped> for ReadFault {
-    ghost from_gives = { λ _ fault. fault ≡ read_fault.Stopped };
+impl From<Stopped> for CodecFault {
+    ghost from_gives = { λ _ fault. fault ≡ codec_fault.Stopped };
 
-    fn from(_: Stopped) -> ReadFault {
-        ReadFault::Stopped
+    fn from(_: Stopped) -> CodecFault {
+        CodecFault::Stopped
     }
 }
 
-impl From<AllocError> for ReadFault {
-    ghost from_gives = { λ _ fault. fault ≡ read_fault.Memory };
+impl From<AllocError> for CodecFault {
+    ghost from_gives = { λ _ fault. fault ≡ codec_fault.Memory };
 
-    fn from(_: AllocError) -> ReadFault {
-        ReadFault::Memory
+    fn from(_: AllocError) -> CodecFault {
+        CodecFault::Memory
     }
 }
 
-impl<T: Drop> From<AllocFailed<T>> for ReadFault {
-    ghost from_gives = { λ _ fault. fault ≡ read_fault.Memory };
+impl<T: Drop> From<AllocFailed<T>> for CodecFault {
+    ghost from_gives = { λ _ fault. fault ≡ codec_fault.Memory };
 
-    fn from(_: AllocFailed<T>) -> ReadFault {
-        ReadFault::Memory
+    fn from(_: AllocFailed<T>) -> CodecFault {
+        CodecFault::Memory
     }
 }

@@ -10,6 +10,6 @@ mod writing;
 
 pub use cursor::{Cursor, offset};
 pub use digits::{push_key, read_key};
-pub use fault::{ReadFault, Stopped};
+pub use fault::{CodecFault, Stopped};
 pub use laws::{keys_are_exact, numbers_are_exact};
 pub use writing::push_field;

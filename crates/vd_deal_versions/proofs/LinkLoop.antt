@@ -2,8 +2,8 @@
 use Rattle.std.proofs.Common.{◌≡◌, ℕ, suc, ◌+◌, ◌-◌, ◌<◌, ◌≤◌, List, [], ◌∷◌, ◌++◌, Ok, Err, refl, sym, ap, ◌∙◌, append_assoc, arith}
 use Rattle.std.proofs.lemmas.List.{append-nil}
 use Rattle.vd_base_codec.specs.Reading.{Reading, ◌>>=◌, StopsOrMemory}
-use Rattle.vd_base_codec.specs.declared.fault.ReadFault.{ReadFault}
-use Rattle.vd_base_codec.specs.declared.fault.ReadFault.TheVariants as fault
+use Rattle.vd_base_codec.specs.declared.fault.CodecFault.{CodecFault}
+use Rattle.vd_base_codec.specs.declared.fault.CodecFault.TheVariants as fault
 use Rattle.vd_deal_items.specs.Validity.{peer_at}
 use Rattle.vd_deal_versions.specs.declared.reading.Linked.{Linked}
 use Rattle.vd_deal_versions.specs.declared.reading.LinkedShare.{LinkedShare}
@@ -57,7 +57,7 @@ all_linked me front count i bytes total le so_far =
     let here : with_front front (linked_at me i (count - i) bytes) ≡ Ok (front, bytes) = rw k (ap (λ (f : Linked). Ok (f, bytes)) e) in
     sym so_far ∙ here
 
-pub one_fault : (why : ReadFault) (me : ℕ) (front : Linked) (count i : ℕ) (bytes left : List ℕ) (total : Reading Linked) → i < count → StopsOrMemory why left (one_at (peer_at me i) bytes)
+pub one_fault : (why : CodecFault) (me : ℕ) (front : Linked) (count i : ℕ) (bytes left : List ℕ) (total : Reading Linked) → i < count → StopsOrMemory why left (one_at (peer_at me i) bytes)
     → with_front front (linked_at me i (count - i) bytes) ≡ total → StopsOrMemory why left total
 one_fault fault.Stopped me front count i bytes left total lt h so_far = no_one me front count i bytes left total lt h so_far
 one_fault fault.Memory me front count i bytes left total lt h so_far = tt

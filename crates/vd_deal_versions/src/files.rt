@@ -10,7 +10,7 @@ use crate::dealt::Dealt;
 use crate::reading::read_file;
 use std::alloc::Global;
 use vd_base::{FileFault, HostId};
-use vd_base_codec::{Cursor, ReadFault, offset};
+use vd_base_codec::{CodecFault, Cursor, offset};
 
 /// The deal of one host among so many, from its file of either version.
 ///
@@ -37,7 +37,7 @@ fn read_bytes(alloc: Global, bytes: &[u8], hosts: u8, me: HostId) -> Result<Deal
     let mut cursor = Cursor::new(bytes);
     match read_file(alloc, &mut cursor, hosts, me) {
         Ok(dealt) => Ok(dealt),
-        Err(ReadFault::Stopped) => Err(FileFault::Text(offset(bytes.len() - cursor.len()))),
-        Err(ReadFault::Memory) => Err(FileFault::Memory),
+        Err(CodecFault::Stopped) => Err(FileFault::Text(offset(bytes.len() - cursor.len()))),
+        Err(CodecFault::Memory) => Err(FileFault::Memory),
     }
 }

@@ -7,7 +7,7 @@ ghost use Rattle.vd_deal_versions.specs.Reading.{dealt_at, is_second, front_at, 
 use crate::dealt::{Dealt, SecretDeal};
 use std::alloc::Global;
 use vd_base::HostId;
-use vd_base_codec::{Cursor, ReadFault, Stopped, read_key};
+use vd_base_codec::{CodecFault, Cursor, Stopped, read_key};
 use vd_base_lists::Items;
 use vd_deal_items::{Deal, PairItem, Triple};
 use vd_deal_keys::{LinkKey, Secrets};
@@ -43,7 +43,7 @@ pub(crate) fn read_file(
     cursor: &mut Cursor,
     hosts: u8,
     me: HostId,
-) -> Result<Dealt, ReadFault>
+) -> Result<Dealt, CodecFault>
     requires { 0 < hosts }
     ensures { GivesOrMemory result cursor.new (to_the_end (dealt_at hosts me.0 cursor.old)) }
 {
@@ -58,7 +58,7 @@ fn read_either(
     cursor: &mut Cursor,
     hosts: u8,
     me: HostId,
-) -> Result<Dealt, ReadFault>
+) -> Result<Dealt, CodecFault>
     requires { 0 < hosts }
     ensures { GivesOrMemory result cursor.new (dealt_at hosts me.0 cursor.old) }
 {
@@ -84,7 +84,7 @@ fn read_version_2(
     cursor: &mut Cursor,
     hosts: u8,
     me: HostId,
-) -> Result<SecretDeal, ReadFault>
+) -> Result<SecretDeal, CodecFault>
     requires { 0 < hosts }
     ensures { GivesOrMemory result cursor.new (secret_at hosts me.0 cursor.old) }
 {
@@ -122,7 +122,7 @@ fn read_front(cursor: &mut Cursor, hosts: u8, me: HostId) -> Result<[u8; 32], St
 }
 
 /// The lines of so many peers.
-fn read_linked(alloc: Global, cursor: &mut Cursor, count: u8, me: u8) -> Result<Linked, ReadFault>
+fn read_linked(alloc: Global, cursor: &mut Cursor, count: u8, me: u8) -> Result<Linked, CodecFault>
     ensures { GivesOrMemory result cursor.new (linked_at me 0 count cursor.old) }
 {
     let mut linked = Linked {
@@ -144,7 +144,7 @@ fn read_linked(alloc: Global, cursor: &mut Cursor, count: u8, me: u8) -> Result<
 
 /// The line of the key of the link to a peer, and the three lines of its items.
 #[tactic(auto, unfolding(crate::specs::Reading::one_at))]
-fn read_one(alloc: Global, cursor: &mut Cursor, peer: u8) -> Result<LinkedShare, ReadFault>
+fn read_one(alloc: Global, cursor: &mut Cursor, peer: u8) -> Result<LinkedShare, CodecFault>
     ensures { GivesOrMemory result cursor.new (one_at peer cursor.old) }
 {
     let link = read_link(cursor, peer)?;

@@ -1,8 +1,8 @@
 -- Lines one after the other, as a loop reads them.
 use Rattle.std.proofs.Common.{◌≡◌, ℕ, zero, suc, ◌<◌, ◌≤◌, Bool, true, false, cond, List, [], ◌∷◌, ◌++◌, length, Ok, Err, refl, sym, ap, ◌∙◌, append_assoc, arith, true≢false}
 use Rattle.std.proofs.lemmas.List.{append-nil}
-use Rattle.vd_base_codec.specs.declared.fault.ReadFault.{ReadFault}
-use Rattle.vd_base_codec.specs.declared.fault.ReadFault.TheVariants as fault
+use Rattle.vd_base_codec.specs.declared.fault.CodecFault.{CodecFault}
+use Rattle.vd_base_codec.specs.declared.fault.CodecFault.TheVariants as fault
 use Rattle.vd_base_codec.specs.Reading.{Reading, ◌>>=◌, byte_at, StopsOrMemory}
 use Rattle.vd_base_codec.specs.Exact.{IsAnything, IsExact}
 use Rattle.vd_execution.specs.declared.instructions.Instr.{Instr}
@@ -131,6 +131,6 @@ code_stops : (front : List Instr) (s : State) (bytes left : List ℕ) (total : R
 code_stops front s bytes left total e (zero, le, so_far) = sym so_far ∙ empty_stops front s bytes left le e
 code_stops front s bytes left total e (suc n, le, so_far) = sym so_far ∙ with_fuel front n s bytes ∙ stops_by front n s left (line_at s bytes) (sym (line_with_word s bytes) ∙ e)
 
-pub code_fault : (why : ReadFault) (front : List Instr) (s : State) (bytes left : List ℕ) (total : Reading (List Instr)) → StopsOrMemory why left (next_at s bytes) → CodeGoesOn front s bytes total → StopsOrMemory why left total
+pub code_fault : (why : CodecFault) (front : List Instr) (s : State) (bytes left : List ℕ) (total : Reading (List Instr)) → StopsOrMemory why left (next_at s bytes) → CodeGoesOn front s bytes total → StopsOrMemory why left total
 code_fault fault.Stopped front s bytes left total e h = code_stops front s bytes left total e h
 code_fault fault.Memory front s bytes left total e h = tt

@@ -1,7 +1,7 @@
 -- The names of the hosts as the loop of their reader takes them.
 use Rattle.std.proofs.Common.{◌≡◌, ℕ, ◌+◌, ◌<◌, ◌≤◌, true, false, List, [], ◌∷◌, ◌++◌, length, Ok, sym, ap, subst, ◌∙◌, length-append, arith}
-use Rattle.vd_base_codec.specs.declared.fault.ReadFault.{ReadFault}
-use Rattle.vd_base_codec.specs.declared.fault.ReadFault.TheVariants as fault
+use Rattle.vd_base_codec.specs.declared.fault.CodecFault.{CodecFault}
+use Rattle.vd_base_codec.specs.declared.fault.CodecFault.TheVariants as fault
 use Rattle.vd_base_codec.specs.Reading.{Reading, StopsOrMemory}
 use Rattle.vd_host_text.specs.Reading.{starts_with}
 use Rattle.vd_host_text.specs.Heading.{next_name_at, hosts_at}
@@ -11,11 +11,11 @@ use Rattle.vd_host_text.proofs.HostSteps.{NamesGoOn, names_start, names_none, na
 abbrev pub Hosts : List (List ℕ) → List ℕ → Reading (List (List ℕ)) → Type 0
 Hosts hosts bytes total = NamesGoOn hosts bytes total × (1 ≤ length hosts) × (length hosts ≤ 4)
 
-first_by : (why : ReadFault) (bytes left : List ℕ) → StopsOrMemory why left (next_name_at [] bytes) → StopsOrMemory why left (hosts_at bytes)
+first_by : (why : CodecFault) (bytes left : List ℕ) → StopsOrMemory why left (next_name_at [] bytes) → StopsOrMemory why left (hosts_at bytes)
 first_by fault.Stopped bytes left e = names_none bytes left e
 first_by fault.Memory bytes left e = tt
 
-pub first_fault : (why : ReadFault) (slice none : List (List ℕ)) (bytes left : List ℕ) → slice ≡ none → none ≡ [] → StopsOrMemory why left (next_name_at slice bytes) → StopsOrMemory why left (hosts_at bytes)
+pub first_fault : (why : CodecFault) (slice none : List (List ℕ)) (bytes left : List ℕ) → slice ≡ none → none ≡ [] → StopsOrMemory why left (next_name_at slice bytes) → StopsOrMemory why left (hosts_at bytes)
 first_fault why slice none bytes left s n e = first_by why bytes left (subst (λ k. StopsOrMemory why left (next_name_at k bytes)) (s ∙ n) e)
 
 pub first_name : (slice none hosts : List (List ℕ)) (bytes left x : List ℕ) → slice ≡ none → none ≡ [] → hosts ≡ none ++ x ∷ [] → next_name_at slice bytes ≡ Ok (x, left) → Hosts hosts left (hosts_at bytes)
@@ -27,12 +27,12 @@ first_name slice none hosts bytes left x s n h e =
       omega (arith, ap length one),
     )
 
-next_by : (why : ReadFault) (hosts : List (List ℕ)) (bytes left : List ℕ) (total : Reading (List (List ℕ))) → length hosts < 4 → starts_with 32 bytes ≡ true → StopsOrMemory why left (next_name_at hosts bytes) → NamesGoOn hosts bytes total
+next_by : (why : CodecFault) (hosts : List (List ℕ)) (bytes left : List ℕ) (total : Reading (List (List ℕ))) → length hosts < 4 → starts_with 32 bytes ≡ true → StopsOrMemory why left (next_name_at hosts bytes) → NamesGoOn hosts bytes total
     → StopsOrMemory why left total
 next_by fault.Stopped hosts bytes left total lt is e h = names_stopped hosts bytes left total lt is e h
 next_by fault.Memory hosts bytes left total lt is e h = tt
 
-pub next_fault : (why : ReadFault) (hosts slice again : List (List ℕ)) (bytes left : List ℕ) (total : Reading (List (List ℕ))) → slice ≡ hosts → again ≡ hosts → length slice < 4 → starts_with 32 bytes ≡ true
+pub next_fault : (why : CodecFault) (hosts slice again : List (List ℕ)) (bytes left : List ℕ) (total : Reading (List (List ℕ))) → slice ≡ hosts → again ≡ hosts → length slice < 4 → starts_with 32 bytes ≡ true
     → StopsOrMemory why left (next_name_at again bytes) → Hosts hosts bytes total → StopsOrMemory why left total
 next_fault why hosts slice again bytes left total s a lt is e h =
     next_by why hosts bytes left total (omega (arith, lt, ap length s)) is (subst (λ k. StopsOrMemory why left (next_name_at k bytes)) a e) h.0

@@ -8,7 +8,7 @@ use crate::heading::read_program;
 use crate::program::HostProgram;
 use std::alloc::Global;
 use vd_base::FileFault;
-use vd_base_codec::{Cursor, ReadFault, offset};
+use vd_base_codec::{CodecFault, Cursor, offset};
 
 /// The program of one host, from its file. The ranges of its instructions are not looked at.
 ///
@@ -28,13 +28,13 @@ fn read_bytes(alloc: Global, bytes: &[u8]) -> Result<HostProgram, FileFault>
     let mut cursor = Cursor::new(bytes);
     match read_file(alloc, &mut cursor) {
         Ok(program) => Ok(program),
-        Err(ReadFault::Stopped) => Err(FileFault::Text(offset(bytes.len() - cursor.len()))),
-        Err(ReadFault::Memory) => Err(FileFault::Memory),
+        Err(CodecFault::Stopped) => Err(FileFault::Text(offset(bytes.len() - cursor.len()))),
+        Err(CodecFault::Memory) => Err(FileFault::Memory),
     }
 }
 
 /// The whole file.
-fn read_file(alloc: Global, cursor: &mut Cursor) -> Result<HostProgram, ReadFault>
+fn read_file(alloc: Global, cursor: &mut Cursor) -> Result<HostProgram, CodecFault>
     ensures { GivesOrMemory result cursor.new (to_the_end (program_at cursor.old)) }
 {
     let program = read_program(alloc, cursor)?;

@@ -15,7 +15,7 @@ use crate::reading::{read_code, stands_at};
 use std::alloc::Global;
 use vd_base::limits::HOSTS;
 use vd_base::{HostId, Name, Names, is_letter, is_name, word_len};
-use vd_base_codec::{Cursor, ReadFault, Stopped, read_key};
+use vd_base_codec::{CodecFault, Cursor, Stopped, read_key};
 
 /// Whether instructions on arrays may come, by the number of the format.
 fn version(byte: u8) -> Option<Arrays>
@@ -68,12 +68,12 @@ fn is_among(known: &[Name], name: &Name) -> bool
 
 /// A name that is none of those before it.
 #[tactic(auto, unfolding(crate::specs::Heading::name_at))]
-fn read_name(alloc: Global, cursor: &mut Cursor, earlier: &[Name]) -> Result<Name, ReadFault>
+fn read_name(alloc: Global, cursor: &mut Cursor, earlier: &[Name]) -> Result<Name, CodecFault>
     ensures { GivesOrMemory result cursor.new (heading.name_at earlier.now cursor.old) }
 {
     let letter = cursor.first().is_some_and(|byte| is_letter(byte));
     if !letter {
-        return Err(ReadFault::Stopped);
+        return Err(CodecFault::Stopped);
     }
     let len = word_len(cursor.as_slice());
     let name = Name::from_slice(alloc, &cursor.as_slice()[..len])?;
@@ -81,12 +81,12 @@ fn read_name(alloc: Global, cursor: &mut Cursor, earlier: &[Name]) -> Result<Nam
     if is_name(name.as_slice()) && !is_among(earlier, &name) {
         Ok(name)
     } else {
-        Err(ReadFault::Stopped)
+        Err(CodecFault::Stopped)
     }
 }
 
 /// A name behind a space.
-fn read_next_name(alloc: Global, cursor: &mut Cursor, earlier: &[Name]) -> Result<Name, ReadFault>
+fn read_next_name(alloc: Global, cursor: &mut Cursor, earlier: &[Name]) -> Result<Name, CodecFault>
     ensures { GivesOrMemory result cursor.new (heading.next_name_at earlier.now cursor.old) }
 {
     cursor.byte(b' ')?;
@@ -94,7 +94,7 @@ fn read_next_name(alloc: Global, cursor: &mut Cursor, earlier: &[Name]) -> Resul
 }
 
 /// The names of the hosts.
-fn read_hosts(alloc: Global, cursor: &mut Cursor) -> Result<Names, ReadFault>
+fn read_hosts(alloc: Global, cursor: &mut Cursor) -> Result<Names, CodecFault>
     ensures names { GivesOrMemory result cursor.new (heading.hosts_at cursor.old) }
     ensures some { IfOk result (λ hosts. 1 ≤ length hosts) }
     ensures few { IfOk result (λ hosts. length hosts ≤ most_hosts) }
@@ -111,7 +111,7 @@ fn read_hosts(alloc: Global, cursor: &mut Cursor) -> Result<Names, ReadFault>
 
 /// The line of names.
 #[tactic(auto, unfolding(crate::specs::Outcome::names_line_at))]
-fn read_names_line(alloc: Global, cursor: &mut Cursor) -> Result<Names, ReadFault>
+fn read_names_line(alloc: Global, cursor: &mut Cursor) -> Result<Names, CodecFault>
     ensures names { GivesOrMemory result cursor.new (outcome.names_line_at cursor.old) }
     ensures some { IfOk result (λ hosts. 1 ≤ length hosts) }
     ensures few { IfOk result (λ hosts. length hosts ≤ most_hosts) }
@@ -145,7 +145,7 @@ fn read_me(cursor: &mut Cursor, hosts: usize) -> Result<u8, Stopped>
 
 /// The whole file up to its last line.
 #[tactic(auto, unfolding(crate::specs::Outcome::program_at))]
-pub(crate) fn read_program(alloc: Global, cursor: &mut Cursor) -> Result<HostProgram, ReadFault>
+pub(crate) fn read_program(alloc: Global, cursor: &mut Cursor) -> Result<HostProgram, CodecFault>
     ensures { GivesOrMemory result cursor.new (outcome.program_at cursor.old) }
 {
     let arrays = read_version(cursor)?;

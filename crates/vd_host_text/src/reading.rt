@@ -10,7 +10,7 @@ use crate::blocks::{Arrays, Outline};
 use crate::words::{Word, spelling};
 use std::alloc::{AllocError, Global};
 use vd_base::{HostId, Words};
-use vd_base_codec::{Cursor, ReadFault, Stopped};
+use vd_base_codec::{CodecFault, Cursor, Stopped};
 use vd_base_lists::Items;
 use vd_execution::{Action, Binary, Instr, Reg};
 
@@ -59,7 +59,7 @@ pub(crate) fn read_code(
     alloc: Global,
     cursor: &mut Cursor,
     arrays: Arrays,
-) -> Result<Items<Instr>, ReadFault>
+) -> Result<Items<Instr>, CodecFault>
     ensures { GivesOrMemory result cursor.new (reading.code_at (lines.start arrays) cursor.old) }
 {
     let mut outline = Outline::new(alloc, arrays);
@@ -79,7 +79,7 @@ fn read_next(
     alloc: Global,
     cursor: &mut Cursor,
     outline: &Outline,
-) -> Result<(Word, Instr), ReadFault>
+) -> Result<(Word, Instr), CodecFault>
     ensures { GivesOrMemory result cursor.new (reading.next_at outline.now cursor.old) }
 {
     let word = read_word(cursor, outline)?;
@@ -129,7 +129,7 @@ fn alike(word: &[u8], bytes: &[u8]) -> usize
 
 /// The rest of a line.
 #[tactic(auto, unfolding(crate::specs::Reading::instr_at))]
-fn read_line(alloc: Global, cursor: &mut Cursor, word: Word) -> Result<Instr, ReadFault>
+fn read_line(alloc: Global, cursor: &mut Cursor, word: Word) -> Result<Instr, CodecFault>
     ensures { GivesOrMemory result cursor.new (reading.instr_at word cursor.old) }
 {
     let numbers = read_numbers(alloc, cursor, word)?;
@@ -139,7 +139,7 @@ fn read_line(alloc: Global, cursor: &mut Cursor, word: Word) -> Result<Instr, Re
 
 /// The numbers of a line.
 #[tactic(auto, unfolding(crate::specs::Reading::numbers_at))]
-fn read_numbers(alloc: Global, cursor: &mut Cursor, word: Word) -> Result<Words, ReadFault>
+fn read_numbers(alloc: Global, cursor: &mut Cursor, word: Word) -> Result<Words, CodecFault>
     ensures { GivesOrMemory result cursor.new (reading.numbers_at word cursor.old) }
 {
     let mut numbers = read_each(alloc, cursor, arity(word))?;
@@ -158,7 +158,7 @@ fn read_number(cursor: &mut Cursor) -> Result<u32, Stopped>
 }
 
 /// So many numbers.
-fn read_each(alloc: Global, cursor: &mut Cursor, count: u8) -> Result<Words, ReadFault>
+fn read_each(alloc: Global, cursor: &mut Cursor, count: u8) -> Result<Words, CodecFault>
     ensures { GivesOrMemory result cursor.new (each_at reading.number_at count cursor.old) }
 {
     let mut numbers = Items::new(alloc);
@@ -170,7 +170,7 @@ fn read_each(alloc: Global, cursor: &mut Cursor, count: u8) -> Result<Words, Rea
 }
 
 /// Numbers as far as they go.
-fn read_many(alloc: Global, cursor: &mut Cursor) -> Result<Words, ReadFault>
+fn read_many(alloc: Global, cursor: &mut Cursor) -> Result<Words, CodecFault>
     ensures { GivesOrMemory result cursor.new (reading.many_at (length cursor.old) cursor.old) }
 {
     let mut numbers = Items::new(alloc);

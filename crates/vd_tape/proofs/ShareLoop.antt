@@ -2,8 +2,8 @@
 use Rattle.std.proofs.Common.{◌≡◌, ℕ, suc, ◌+◌, ◌-◌, ◌<◌, ◌≤◌, List, [], ◌∷◌, ◌++◌, Ok, Err, refl, sym, ap, ◌∙◌, append_assoc, arith}
 use Rattle.std.proofs.lemmas.List.{append-nil}
 use Rattle.vd_base_codec.specs.Reading.{Reading, ◌>>=◌, StopsOrMemory}
-use Rattle.vd_base_codec.specs.declared.fault.ReadFault.{ReadFault}
-use Rattle.vd_base_codec.specs.declared.fault.ReadFault.TheVariants as fault
+use Rattle.vd_base_codec.specs.declared.fault.CodecFault.{CodecFault}
+use Rattle.vd_base_codec.specs.declared.fault.CodecFault.TheVariants as fault
 use Rattle.vd_deal_items.specs.Validity.{peer_at}
 use Rattle.vd_deal_items.specs.declared.items.Triple.{Triple}
 use Rattle.vd_deal_items.specs.declared.items.PairItem.{PairItem}
@@ -63,7 +63,7 @@ all_shares me front count i bytes total le so_far =
     let here : with_front front (shares_at me i (count - i) bytes) ≡ Ok (front, bytes) = rw k (ap (λ (f : Shares). Ok (f, bytes)) e) in
     sym so_far ∙ here
 
-pub share_fault : (why : ReadFault) (me : ℕ) (front : Shares) (count i : ℕ) (bytes left : List ℕ) (total : Reading Shares) → i < count → StopsOrMemory why left (share_at (peer_at me i) bytes)
+pub share_fault : (why : CodecFault) (me : ℕ) (front : Shares) (count i : ℕ) (bytes left : List ℕ) (total : Reading Shares) → i < count → StopsOrMemory why left (share_at (peer_at me i) bytes)
     → with_front front (shares_at me i (count - i) bytes) ≡ total → StopsOrMemory why left total
 share_fault fault.Stopped me front count i bytes left total lt h so_far = no_share me front count i bytes left total lt h so_far
 share_fault fault.Memory me front count i bytes left total lt h so_far = tt

@@ -9,7 +9,7 @@ ghost use Rattle.vd_tape.specs.Outcome.{Accepts, Refuses, IsFaultOf};
 use crate::reading::read_file;
 use std::alloc::Global;
 use vd_base::{FileFault, HostId};
-use vd_base_codec::{Cursor, ReadFault, offset};
+use vd_base_codec::{CodecFault, Cursor, offset};
 use vd_deal_items::Deal;
 
 /// The deal of one host among so many, from its file.
@@ -36,7 +36,7 @@ fn read_bytes(alloc: Global, bytes: &[u8], hosts: u8, me: HostId) -> Result<Deal
     let mut cursor = Cursor::new(bytes);
     match read_file(alloc, &mut cursor, hosts, me) {
         Ok(deal) => Ok(deal),
-        Err(ReadFault::Stopped) => Err(FileFault::Text(offset(bytes.len() - cursor.len()))),
-        Err(ReadFault::Memory) => Err(FileFault::Memory),
+        Err(CodecFault::Stopped) => Err(FileFault::Text(offset(bytes.len() - cursor.len()))),
+        Err(CodecFault::Memory) => Err(FileFault::Memory),
     }
 }

@@ -10,7 +10,7 @@ use crate::item::Item;
 use std::alloc::Global;
 use vd_base::HostId;
 use vd_base::limits::DEAL_ITEMS;
-use vd_base_codec::{Cursor, ReadFault, Stopped};
+use vd_base_codec::{CodecFault, Cursor, Stopped};
 use vd_base_lists::Items;
 use vd_deal_items::{Deal, PairItem, Triple};
 
@@ -36,7 +36,7 @@ pub(crate) fn read_file(
     cursor: &mut Cursor,
     hosts: u8,
     me: HostId,
-) -> Result<Deal, ReadFault>
+) -> Result<Deal, CodecFault>
     requires { 0 < hosts }
     ensures { GivesOrMemory result cursor.new (to_the_end (deal_at hosts me.0 cursor.old)) }
 {
@@ -52,7 +52,7 @@ pub fn read_plain(
     cursor: &mut Cursor,
     hosts: u8,
     me: HostId,
-) -> Result<Deal, ReadFault>
+) -> Result<Deal, CodecFault>
     requires { 0 < hosts }
     ensures { GivesOrMemory result cursor.new (deal_at hosts me.0 cursor.old) }
 {
@@ -73,7 +73,7 @@ pub fn read_plain(
 }
 
 /// The lines of so many peers.
-fn read_shares(alloc: Global, cursor: &mut Cursor, count: u8, me: u8) -> Result<Shares, ReadFault>
+fn read_shares(alloc: Global, cursor: &mut Cursor, count: u8, me: u8) -> Result<Shares, CodecFault>
     ensures { GivesOrMemory result cursor.new (shares_at me 0 count cursor.old) }
 {
     let mut shares = Shares {
@@ -100,7 +100,7 @@ pub fn peer(me: u8, place: u8) -> u8
 
 /// The three lines of a peer.
 #[tactic(auto, unfolding(crate::specs::Reading::share_at))]
-pub fn read_share(alloc: Global, cursor: &mut Cursor, peer: u8) -> Result<Share, ReadFault>
+pub fn read_share(alloc: Global, cursor: &mut Cursor, peer: u8) -> Result<Share, CodecFault>
     ensures { GivesOrMemory result cursor.new (share_at peer cursor.old) }
 {
     read_heading(cursor, b"mul", peer)?;
@@ -127,7 +127,7 @@ pub fn read_heading(cursor: &mut Cursor, kind: &[u8], peer: u8) -> Result<(), St
 
 /// The rest of a line: how many items there are, and the items.
 #[tactic(auto, unfolding(crate::specs::Reading::list_at))]
-pub fn read_list<T: Item>(alloc: Global, cursor: &mut Cursor) -> Result<Items<T>, ReadFault>
+pub fn read_list<T: Item>(alloc: Global, cursor: &mut Cursor) -> Result<Items<T>, CodecFault>
     ensures { GivesOrMemory result cursor.new (list_at T.reading cursor.old) }
 {
     let count = cursor.field(DEAL_ITEMS)?;
@@ -141,7 +141,7 @@ fn read_items<T: Item>(
     alloc: Global,
     cursor: &mut Cursor,
     count: u32,
-) -> Result<Items<T>, ReadFault>
+) -> Result<Items<T>, CodecFault>
     ensures { GivesOrMemory result cursor.new (each_at T.reading count cursor.old) }
 {
     let mut items = Items::new(alloc);
