@@ -6,19 +6,19 @@ use Rattle.vd_execution.specs.Code.{Code, Finished, Then, Send, Recv, Choose, Re
 use Rattle.vd_execution.specs.Step.{Source, same_source}
 use Rattle.vd_execution.specs.Text.{Open, Reading, with_instr, read_before, read}
 use Rattle.vd_deal_needs_laws.specs.Needs.{counts, one_of, source_of}
-use Rattle.vd_deal_needs.specs.declared.blocks.Behind.{Behind}
+use Rattle.vd_deal_needs.specs.declared.blocks.TakenBehind.{TakenBehind}
 use Rattle.vd_deal_needs.specs.Counted.{Counts, IsCountable, capped, code_in}
 
 abbrev reading : Code → List Open → Reading
 reading c os = record { code = c; blocks = os }
 
 -- what was counted is taken by what was read from here on
-pub record SoFar (r : Source) (code : List Instr) (left taken : ℕ) (blocks : List Behind) : Type 0 where
+pub record SoFar (r : Source) (code : List Instr) (left taken : ℕ) (blocks : List TakenBehind) : Type 0 where
   pub so_far : Reading
   pub reads : read (drop left code) ≡ Some so_far
   pub counted : Counts r taken blocks so_far
 
-pub begun : (r : Source) (code : List Instr) (left taken : ℕ) (blocks : List Behind) → length code ≤ left → taken ≡ 0 → blocks ≡ [] → SoFar r code left taken blocks
+pub begun : (r : Source) (code : List Instr) (left taken : ℕ) (blocks : List TakenBehind) → length code ≤ left → taken ≡ 0 → blocks ≡ [] → SoFar r code left taken blocks
 begun r code left taken blocks le e f = record {
   so_far = reading Finished [];
   reads = ap read (drop_all left code le);
@@ -34,7 +34,7 @@ behind_reads : (front is : List Instr) (q : Reading) → read (front ++ is) ≡ 
 behind_reads [] is q e = (q, e)
 behind_reads (i ∷ front) is q e = let x = with_none i (read (front ++ is)) q e in behind_reads front is x.0 x.1
 
-pub one_more : (r : Source) (code : List Instr) (i : Instr) (left next taken count : ℕ) (blocks new : List Behind) → IsCountable code → next + 1 ≡ left → next < length code → i ≡ get_or code next i
+pub one_more : (r : Source) (code : List Instr) (i : Instr) (left next taken count : ℕ) (blocks new : List TakenBehind) → IsCountable code → next + 1 ≡ left → next < length code → i ≡ get_or code next i
     → ((x y : Reading) → Counts r taken blocks x → with_instr i x.code x.blocks ≡ Some y → Counts r count new y) → SoFar r code left taken blocks → SoFar r code next count new
 one_more r code i left next taken count blocks new is n lt there goes s =
     let whole : read (take next code ++ drop next code) ≡ Some (reading (code_in code) []) = ap read (take-append-drop next code) ∙ is.nested in
@@ -83,7 +83,7 @@ uncapped n m e lt = omega (arith, e, lt)
 same_reading : (x y : Reading) → Some x ≡ Some y → x.code ≡ y.code
 same_reading x y e = let same : x ≡ y = cc in ap (λ z. z.code) same
 
-pub told : (r : Source) (code : List Instr) (left taken : ℕ) (blocks : List Behind) → IsCountable code → left ≡ 0 → SoFar r code left taken blocks → taken ≡ counts (code_in code) r
+pub told : (r : Source) (code : List Instr) (left taken : ℕ) (blocks : List TakenBehind) → IsCountable code → left ≡ 0 → SoFar r code left taken blocks → taken ≡ counts (code_in code) r
 told r code left taken blocks is none s =
     let all : read code ≡ Some s.so_far = ap (λ k. read (drop k code)) (sym none) ∙ s.reads in
     let same : s.so_far.code ≡ code_in code = same_reading s.so_far (reading (code_in code) []) (sym all ∙ is.nested) in

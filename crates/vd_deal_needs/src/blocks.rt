@@ -2,7 +2,7 @@
 
 /// A block whose end was read, with what is taken from a list behind what is read of it.
 #[derive(Clone, Copy, PartialEq, Eq, Debug)]
-pub(crate) enum Behind {
+pub(crate) enum TakenBehind {
     /// Behind the block.
     End(u64),
     /// Of a branch whose `else` was read: in its other part, and behind the branch.

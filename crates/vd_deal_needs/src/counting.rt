@@ -5,7 +5,7 @@ ghost use Rattle.vd_deal_needs_laws.specs.Needs.{counts};
 ghost use Rattle.vd_deal_needs.specs.Counted.{CountsOn, IsCountable, capped, code_in};
 ghost use Rattle.vd_deal_needs.specs.Lists.{source_in};
 
-use crate::blocks::Behind;
+use crate::blocks::TakenBehind;
 use crate::lists::{ItemList, taken_by};
 use std::alloc::{AllocError, Global};
 use vd_base_lists::Items;
@@ -29,23 +29,23 @@ fn times(a: u64, b: u64) -> u64
 }
 
 /// Leaves a block whose end was read. Tells what is taken behind it.
-fn pop_end(blocks: &mut Items<Behind>) -> u64
-    ensures { (outer : List Behind) (rest : ℕ) → blocks.old ≡ outer ++ Behind.End rest ∷ [] → (result ≡ rest) × (blocks.new ≡ outer) }
+fn pop_end(blocks: &mut Items<TakenBehind>) -> u64
+    ensures { (outer : List TakenBehind) (rest : ℕ) → blocks.old ≡ outer ++ TakenBehind.End rest ∷ [] → (result ≡ rest) × (blocks.new ≡ outer) }
 {
     match blocks.pop() {
-        Some(Behind::End(rest)) => rest,
+        Some(TakenBehind::End(rest)) => rest,
         _ => 0,
     }
 }
 
 /// Leaves a branch whose `else` was read. Tells what is taken by the branch and behind it, where its first part takes so much: in
 /// the dearer of its parts, and behind.
-fn pop_branch(blocks: &mut Items<Behind>, first: u64) -> u64
-    ensures { (outer : List Behind) (other rest : ℕ) → blocks.old ≡ outer ++ Behind.Else other rest ∷ []
+fn pop_branch(blocks: &mut Items<TakenBehind>, first: u64) -> u64
+    ensures { (outer : List TakenBehind) (other rest : ℕ) → blocks.old ≡ outer ++ TakenBehind.Else other rest ∷ []
         → (result ≡ capped (max first other + rest)) × (blocks.new ≡ outer) }
 {
     match blocks.pop() {
-        Some(Behind::Else(other, rest)) => plus(first.max(other), rest),
+        Some(TakenBehind::Else(other, rest)) => plus(first.max(other), rest),
         _ => 0,
     }
 }
@@ -55,7 +55,7 @@ fn count_before(
     instruction: &Instr,
     list: ItemList,
     taken: u64,
-    blocks: &mut Items<Behind>,
+    blocks: &mut Items<TakenBehind>,
 ) -> Result<u64, AllocError>
     ensures { CountsOn (source_in list) instruction.now taken blocks.old blocks.new result }
 {
@@ -64,12 +64,12 @@ fn count_before(
         Instr::Send(_, _) => Ok(taken),
         Instr::Recv(_, _) => Ok(taken),
         Instr::End => {
-            blocks.push(Behind::End(taken))?;
+            blocks.push(TakenBehind::End(taken))?;
             Ok(0)
         }
         Instr::Else => {
             let rest = pop_end(blocks);
-            blocks.push(Behind::Else(taken, rest))?;
+            blocks.push(TakenBehind::Else(taken, rest))?;
             Ok(0)
         }
         Instr::If(_) => Ok(pop_branch(blocks, taken)),
