@@ -1,5 +1,4 @@
 pub mod Front
-mod Puts
 mod Runs
 mod Labels
 mod Differences

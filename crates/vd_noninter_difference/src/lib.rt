@@ -6,8 +6,6 @@ mod difference;
 mod laws;
 mod listener;
 mod run;
-mod stores;
-mod world;
 
 pub use difference::view_difference;
 pub use laws::differences_are_exact;

@@ -10,13 +10,12 @@ ghost use Rattle.vd_noninter_difference.specs.Runs.{Hearer, after, after_all, al
 ghost use Rattle.vd_semantics.specs.ProgramMeaning.{word_at, array_at, right_word, after_right, in_world};
 
 use crate::listener::Listener;
-use crate::stores::{put_array, put_element, put_word, zeros};
-use crate::world::World;
 use std::alloc::{AllocError, Global};
 use std::marker::Model;
 use vd_base::{HostId, Inputs, SlotId, Words, combine};
 use vd_base_lists::Items;
 use vd_core::{NormalForm, Right, Stmt};
+use vd_semantics::{World, put_array, put_element, put_word, zeros};
 
 /// The clear words that come to a host of the program, in order. The inputs of each host are followed by zeros.
 ///

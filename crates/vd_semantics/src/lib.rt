@@ -11,3 +11,5 @@ mod world;
 
 pub use program::clear_core;
 pub use source::clear_source;
+pub use stores::{put_array, put_element, put_word, zeros};
+pub use world::World;

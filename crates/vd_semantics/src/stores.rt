@@ -8,7 +8,7 @@ use vd_base::Words;
 use vd_base_lists::Items;
 
 /// Writes a word; up to there zeros stand.
-pub(crate) fn put_word(store: &mut Vec<u32>, at: usize, word: u32) -> Result<(), AllocError>
+pub fn put_word(store: &mut Vec<u32>, at: usize, word: u32) -> Result<(), AllocError>
     ensures { OnOk result (store.new.items ≡ put 0 store.old.items at word) }
 {
     while store.len() <= at {
@@ -19,7 +19,7 @@ pub(crate) fn put_word(store: &mut Vec<u32>, at: usize, word: u32) -> Result<(),
 }
 
 /// Writes an array; up to there empty ones stand.
-pub(crate) fn put_array(
+pub fn put_array(
     alloc: Global,
     store: &mut Vec<Words>,
     at: usize,
@@ -35,7 +35,7 @@ pub(crate) fn put_array(
 }
 
 /// Writes one word of an array of a store.
-pub(crate) fn put_element(
+pub fn put_element(
     alloc: Global,
     store: &mut Vec<Words>,
     at: usize,
@@ -62,7 +62,7 @@ pub(crate) fn set_element(array: &mut Words, index: u32, word: u32)
 }
 
 /// An array as it is made.
-pub(crate) fn zeros(alloc: Global, size: u32) -> Result<Words, AllocError>
+pub fn zeros(alloc: Global, size: u32) -> Result<Words, AllocError>
     ensures { IfOk result (λ array. array ≡ replicate size 0) }
 {
     let mut array = Items::new(alloc);

@@ -44,7 +44,7 @@ impl<'a> InputWords<'a> {
 
 /// What the hosts have still to hand in, and the outputs to each of them.
 #[derive(Drop)]
-pub(crate) struct World<'a> {
+pub struct World<'a> {
     inputs: Vec<InputWords<'a>>,
     outputs: Vec<Words>,
 }
@@ -59,7 +59,7 @@ impl<'a> Model for World<'a> {
 
 impl<'a> World<'a> {
     /// There are no outputs yet.
-    pub(crate) fn at_start(
+    pub fn at_start(
         alloc: Global,
         hosts: usize,
         inputs: &'a Inputs,
@@ -72,7 +72,7 @@ impl<'a> World<'a> {
     }
 
     /// Takes the next word of a host.
-    pub(crate) fn input(&mut self, host: usize) -> u32
+    pub fn input(&mut self, host: usize) -> u32
         ensures word { result ≡ input_word self.old host }
         ensures rest { self.new ≡ after_input self.old host }
     {
@@ -84,7 +84,7 @@ impl<'a> World<'a> {
     }
 
     /// Tells a host a word.
-    pub(crate) fn output(&mut self, host: usize, word: u32) -> Result<(), AllocError>
+    pub fn output(&mut self, host: usize, word: u32) -> Result<(), AllocError>
         ensures { OnOk result (self.new ≡ after_output self.old host word) }
     {
         if host < self.outputs.len() {
