@@ -15,10 +15,10 @@ use Rattle.vd_core.specs.declared.source.Statement.TheOpen.{Statement-F}
 use Rattle.vd_semantics.specs.declared.held.Held.{Held}
 use Rattle.vd_semantics.specs.declared.held.Held.TheVariants.{Bound, Cell, Elements}
 use Rattle.vd_semantics.specs.World.{World, after_output}
-use Rattle.vd_base.specs.Names.{Named, at_name, place_of}
+use Rattle.vd_base.specs.Names.{Named, at_name, changed, place_of}
 use Rattle.vd_semantics.specs.Turns.{turns}
 use Rattle.vd_semantics.specs.ProgramMeaning.{SlotState, Effect, in_world, in_order, stmt_effect, effect, block_effect}
-use Rattle.vd_semantics.specs.SourceMeaning.{State, Callee, evaluation, store_word, store_element, changed, Execution, in_sequence, left_block, block_execution, with_name, turn_execution, statement_execution}
+use Rattle.vd_semantics.specs.SourceMeaning.{State, Callee, evaluation, store_word, store_element, Execution, in_sequence, left_block, block_execution, with_name, turn_execution, statement_execution}
 use Rattle.vd_anf.specs.declared.spot.Spot.{Spot}
 use Rattle.vd_anf.specs.declared.spot.Spot.TheVariants.{Binding, Variable, Array}
 use Rattle.vd_anf.specs.declared.here.Here.{Here}

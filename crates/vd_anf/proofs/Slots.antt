@@ -2,10 +2,9 @@
 use Rattle.std.proofs.Common.{◌≡◌, ℕ, zero, suc, ◌<◌, ◌≤◌, Bool, true, false, ◌&&◌, List, [], ◌∷◌, ◌++◌, Option, Some, None, refl, sym, ap, ◌∙◌, subst, arith, if◌then◌else◌, bytes_eq, slice_index_or}
 use Rattle.vd_semantics.specs.declared.held.Held.{Held}
 use Rattle.vd_semantics.specs.declared.held.Held.TheVariants.{Bound, Cell, Elements}
-use Rattle.vd_base.specs.Names.{Named, at_name}
+use Rattle.vd_base.specs.Names.{Named, at_name, changed}
 use Rattle.vd_semantics.specs.Stores.{put}
 use Rattle.vd_semantics.specs.ProgramMeaning.{SlotState}
-use Rattle.vd_semantics.specs.SourceMeaning.{changed}
 use Rattle.vd_anf.specs.declared.spot.Spot.{Spot}
 use Rattle.vd_anf.specs.declared.spot.Spot.TheVariants.{Binding, Variable, Array}
 

@@ -1,42 +1,12 @@
--- Entries and functions, found by name.
-use Rattle.std.proofs.Common.{◌≡◌, ℕ, zero, suc, ◌+◌, ◌<◌, ◌≤◌, true, false, List, [], ◌∷◌, ◌++◌, length, get_or, take, set, Some, None, refl, sym, ap, ◌∙◌, append-nil, append_assoc, suc-add, take_all, arith, if◌then◌else◌, bytes_eq}
+-- Functions and what names hold, found by name.
+use Rattle.std.proofs.Common.{◌≡◌, ℕ, zero, suc, ◌+◌, ◌<◌, true, false, List, [], ◌∷◌, ◌++◌, length, get_or, take, Some, None, refl, sym, ap, ◌∙◌, append-nil, append_assoc, suc-add, unwrap_or, arith, bytes_eq}
 use Rattle.vd_core.specs.declared.source.Function.{Function}
 use Rattle.vd_semantics.specs.declared.held.Held.{Held}
 use Rattle.vd_semantics.specs.World.{World}
-use Rattle.vd_base.specs.Names.{Named, at_name}
+use Rattle.vd_base.specs.Names.{Named, at_name, changed}
+use Rattle.vd_base.proofs.Front.{at_append, changed_none}
 use Rattle.vd_semantics.specs.Functions.{in_text_order}
-use Rattle.vd_semantics.specs.SourceMeaning.{State, left_block, changed}
-
-some_none : {A : Type 0} (a : A) → Some a ≡ None → ⊥
-some_none a e = cc
-
--- the first entry with the name is at k
-changed_at : (es : Named Held) (k : ℕ) (d : List ℕ × Held) (name : List ℕ) (held : Held) (f : Held → Held) (x : List ℕ) → k < length es → at_name (take k es) x ≡ None → bytes_eq (get_or es k d).0 x ≡ true
-    → name ≡ (get_or es k d).0 → held ≡ f (get_or es k d).1 → set es k (name, held) ≡ changed f x es
-changed_at [] k d name held f x lt none is n h = absurd (omega arith)
-changed_at (g ∷ es) zero d name held f x lt none is n h = rw (is, n, h) refl
-changed_at (g ∷ es) (suc k) d name held f x lt none is n h =
-    (elim (bytes_eq g.0 x) as (λ b. (if b then Some g.1 else at_name (take k es) x) ≡ None → g ∷ set es k (name, held) ≡ (if b then (g.0, f g.1) ∷ es else g ∷ changed f x es)) [
-      | true ↦ λ none. absurd (some_none g.1 none)
-      | false ↦ λ none. rw (changed_at es k d name held f x (omega arith) none is n h) refl
-    ]) none
-
--- no entry has the name
-changed_none : (es : Named Held) (f : Held → Held) (x : List ℕ) → at_name es x ≡ None → changed f x es ≡ es
-changed_none [] f x none = refl
-changed_none (g ∷ es) f x none =
-    (elim (bytes_eq g.0 x) as (λ b. (if b then Some g.1 else at_name es x) ≡ None → (if b then (g.0, f g.1) ∷ es else g ∷ changed f x es) ≡ g ∷ es) [
-      | true ↦ λ none. absurd (some_none g.1 none)
-      | false ↦ λ none. rw (changed_none es f x none) refl
-    ]) none
-
-at_append : {A : Type 0} (xs ys : Named A) (x : List ℕ) → at_name xs x ≡ None → at_name (xs ++ ys) x ≡ at_name ys x
-at_append [] ys x none = refl
-at_append (e ∷ xs) ys x none =
-    (elim (bytes_eq e.0 x) as (λ b. (if b then Some e.1 else at_name xs x) ≡ None → (if b then Some e.1 else at_name (xs ++ ys) x) ≡ at_name ys x) [
-      | true ↦ λ none. absurd (some_none e.1 none)
-      | false ↦ λ none. at_append xs ys x none
-    ]) none
+use Rattle.vd_semantics.specs.SourceMeaning.{State, left_block}
 
 module _ {A : Type 0} (make : Function → Named A → A) where
   -- what the functions add stands behind
@@ -73,31 +43,42 @@ module _ {A : Type 0} (make : Function → Named A → A) where
   function_not_here fs k d x lt none is =
       ap (λ (z : Named A). at_name z x) (take_more [] fs k d lt) ∙ at_append (in_text_order make [] (take k fs)) (((get_or fs k d).name.name, make (get_or fs k d) (in_text_order make [] (take k fs))) ∷ []) x none ∙ rw is refl
 
-get_same : {X : Type 0} (xs : List X) (k : ℕ) (d d' : X) → k < length xs → get_or xs k d ≡ get_or xs k d'
-get_same [] k d d' lt = absurd (omega arith)
-get_same (x ∷ xs) zero d d' lt = refl
-get_same (x ∷ xs) (suc k) d d' lt = get_same xs k d d' (omega arith)
+first_changed : {A : Type 0} (e : List ℕ × A) (es : Named A) (f : A → A) (x : List ℕ) → bytes_eq e.0 x ≡ true → changed f x (e ∷ es) ≡ (e.0, f e.1) ∷ es
+first_changed e es f x is = rw is refl
 
--- g is the entry that was looked at, and h the one whose word is changed
-pub changed_here : (es : Named Held) (k : ℕ) (g h : List ℕ × Held) (held : Held) (f : Held → Held) (x : List ℕ) → k < length es → at_name (take k es) x ≡ None → g ≡ get_or es k g → h ≡ get_or es k h → bytes_eq g.0 x ≡ true
-    → held ≡ f h.1 → set es k (h.0, held) ≡ changed f x es
-changed_here es k g h held f x lt none is is' eq m =
-    let same : h ≡ get_or es k g = is' ∙ get_same es k h g lt in
-    changed_at es k g h.0 held f x lt none (ap (λ (z : List ℕ × Held). bytes_eq z.0 x) (sym is) ∙ eq) (ap (λ (z : List ℕ × Held). z.0) same) (m ∙ ap (λ (z : List ℕ × Held). f z.1) same)
+later_changed : {A : Type 0} (e : List ℕ × A) (es : Named A) (f : A → A) (x : List ℕ) → bytes_eq e.0 x ≡ false → changed f x (e ∷ es) ≡ e ∷ changed f x es
+later_changed e es f x is = rw is refl
 
-take_entry : (es : Named Held) (k : ℕ) (d : List ℕ × Held) → k < length es → take (k + 1) es ≡ take k es ++ get_or es k d ∷ []
-take_entry [] k d lt = absurd (omega arith)
-take_entry (e ∷ es) zero d lt = refl
-take_entry (e ∷ es) (suc k) d lt = rw suc-add (ap (λ z. e ∷ z) (take_entry es k d (omega arith)))
+first_found : {A : Type 0} (e : List ℕ × A) (es : Named A) (x : List ℕ) → bytes_eq e.0 x ≡ true → at_name (e ∷ es) x ≡ Some e.1
+first_found e es x is = rw is refl
 
--- one entry more without the name
-pub not_here : (es : Named Held) (k : ℕ) (g : List ℕ × Held) (x : List ℕ) → k < length es → at_name (take k es) x ≡ None → g ≡ get_or es k g → bytes_eq g.0 x ≡ false → at_name (take (k + 1) es) x ≡ None
-not_here es k g x lt none is eq =
-    ap (λ (z : Named Held). at_name z x) (take_entry es k g lt) ∙ at_append (take k es) (get_or es k g ∷ []) x none ∙ rw (ap (λ (z : List ℕ × Held). bytes_eq z.0 x) (sym is) ∙ eq) refl
+later_found : {A : Type 0} (e : List ℕ × A) (es : Named A) (x : List ℕ) → bytes_eq e.0 x ≡ false → at_name (e ∷ es) x ≡ at_name es x
+later_found e es x is = rw is refl
 
--- no entry is left
-pub nowhere : (es : Named Held) (k : ℕ) (f : Held → Held) (x : List ℕ) → length es ≤ k → at_name (take k es) x ≡ None → es ≡ changed f x es
-nowhere es k f x le none = sym (changed_none es f x (rw (← take_all k es le) none))
+some_same : {A : Type 0} (a b : A) → Some a ≡ Some b → a ≡ b
+some_same a b e = ap (λ o. unwrap_or o a) e
+
+-- what a name holds is taken out, changed and put back
+put_back : (es : Named Held) (out : Held) (f : Held → Held) (x : List ℕ) (h : Held) → Some h ≡ at_name es x → changed (λ z. f h) x (changed (λ z. out) x es) ≡ changed f x es
+put_back [] out f x h is = refl
+put_back (e ∷ es) out f x h is =
+    (elim (bytes_eq e.0 x) as (λ b. bytes_eq e.0 x ≡ b → changed (λ z. f h) x (changed (λ z. out) x (e ∷ es)) ≡ changed f x (e ∷ es)) [
+      | true ↦ λ eq.
+          ap (λ (z : Named Held). changed (λ z. f h) x z) (first_changed e es (λ z. out) x eq) ∙ first_changed (e.0, out) es (λ z. f h) x eq
+          ∙ ap (λ (z : Held). (e.0, f z) ∷ es) (some_same h e.1 (is ∙ first_found e es x eq)) ∙ sym (first_changed e es f x eq)
+      | false ↦ λ eq.
+          ap (λ (z : Named Held). changed (λ z. f h) x z) (later_changed e es (λ z. out) x eq) ∙ later_changed e (changed (λ z. out) x es) (λ z. f h) x eq
+          ∙ ap (λ (z : Named Held). e ∷ z) (put_back es out f x h (is ∙ later_found e es x eq)) ∙ sym (later_changed e es f x eq)
+    ]) refl
+
+pub put_back_is : (es es1 es2 : Named Held) (out h h' : Held) (f : Held → Held) (x : List ℕ) → Some h ≡ at_name es x → es1 ≡ changed (λ z. out) x es → h' ≡ f h → es2 ≡ changed (λ z. h') x es1
+    → es2 ≡ changed f x es
+put_back_is es es1 es2 out h h' f x is first new second =
+    second ∙ ap (λ (z : Named Held). changed (λ z. h') x z) first ∙ ap (λ (g : Held). changed (λ z. g) x (changed (λ z. out) x es)) new ∙ put_back es out f x h is
+
+-- a name that is not in sight
+pub not_changed : (es : Named Held) (f g : Held → Held) (x : List ℕ) → None ≡ at_name es x → changed g x es ≡ changed f x es
+not_changed es f g x none = changed_none es g x (sym none) ∙ sym (changed_none es f x (sym none))
 
 -- the names of a block go
 pub block_left : (before after now : Named Held) (n : ℕ) (u w : World) (t : State) → n ≡ length before → now ≡ take n after → ◌≡◌ {A = State} (record { env = after; world = w }) t

@@ -25,7 +25,7 @@ use Rattle.vd_core.specs.declared.source.Source.{Source}
 use Rattle.vd_semantics.specs.declared.held.Held.{Held}
 use Rattle.vd_semantics.specs.declared.held.Held.TheVariants.{Bound, Cell, Elements}
 use Rattle.vd_semantics.specs.World.{World, world_at_start, input_word, after_input, after_output}
-use Rattle.vd_base.specs.Names.{Named, at_name, bound, place_of}
+use Rattle.vd_base.specs.Names.{Named, at_name, changed, bound, place_of}
 use Rattle.vd_semantics.specs.Turns.{turns}
 use Rattle.vd_semantics.specs.Functions.{in_text_order}
 
@@ -148,11 +148,6 @@ abbrev pub store_element : ℕ → ℕ → Held → Held
 store_element i word (Bound w) = Bound w
 store_element i word (Cell w) = Cell w
 store_element i word (Elements ws) = Elements (slice_set ws i word)
-
--- what a name holds is changed
-abbrev pub changed : (Held → Held) → List ℕ → Named Held → Named Held
-changed f name [] = []
-changed f name (e ∷ es) = if bytes_eq e.0 name then (e.0, f e.1) ∷ es else e ∷ changed f name es
 
 -- what a statement does, by the functions in sight
 abbrev pub Execution : Type 0

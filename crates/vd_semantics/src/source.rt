@@ -11,7 +11,7 @@ use crate::names::{bind, element, store, word, write};
 use crate::stores::zeros;
 use crate::world::World;
 use std::alloc::{AllocError, Global};
-use vd_base::{Inputs, Name, Op, Outputs, Words, add_name, combine};
+use vd_base::{Inputs, Op, Outputs, Scope, Words, combine};
 use vd_base_lists::Items;
 use vd_core::{Direction, Expr, Function, Host, Infix, Prefix, Segment, Sign, Source, Statement};
 
@@ -23,13 +23,13 @@ pub fn clear_source(alloc: Global, source: &Source, inputs: &Inputs) -> Result<O
     ensures { IfOk result (λ outputs. outputs ≡ source_outputs source.now inputs.now) }
 {
     let mut world = World::at_start(alloc, source.hosts.as_slice().len(), inputs)?;
-    let scope = Scope {
+    let declarations = Declarations {
         alloc,
         hosts: source.hosts.as_slice(),
         functions: source.functions.as_slice(),
     };
-    let mut env = Vec::new(alloc);
-    scope.sequence(&mut env, &mut world, source.main.as_slice())?;
+    let mut env = Scope::new(alloc);
+    declarations.sequence(&mut env, &mut world, source.main.as_slice())?;
     Ok(world.into_outputs())
 }
 
@@ -85,21 +85,16 @@ fn shift(direction: Direction, bits: u32, x: u32) -> u32
 
 /// What a statement sees besides the names of values: the hosts, and the functions before it.
 #[derive(Drop)]
-struct Scope<'a> {
+struct Declarations<'a> {
     alloc: Global,
     hosts: &'a [Host],
     functions: &'a [Function],
 }
 
-impl<'a> Scope<'a> {
+impl<'a> Declarations<'a> {
     /// The value of an expression.
     #[cycle(run)]
-    fn evaluate(
-        &self,
-        env: &[(Name, Held)],
-        world: &mut World,
-        expr: &Expr,
-    ) -> Result<u32, AllocError>
+    fn evaluate(&self, env: &Scope<Held>, world: &mut World, expr: &Expr) -> Result<u32, AllocError>
         ensures { IfOk result (λ x. ◌≡◌ {A = ℕ × Outside} (x, world.new)
             (evaluation (host_names self.now.hosts.now) expr.now (callees_of (host_names self.now.hosts.now) self.now.functions.now)
             env.now world.old)) }
@@ -151,7 +146,7 @@ impl<'a> Scope<'a> {
     #[cycle(run)]
     fn chain(
         &self,
-        env: &[(Name, Held)],
+        env: &Scope<Held>,
         world: &mut World,
         first: u32,
         segments: &[Segment],
@@ -179,7 +174,7 @@ impl<'a> Scope<'a> {
     #[cycle(run)]
     fn evaluate_all(
         &self,
-        env: &[(Name, Held)],
+        env: &Scope<Held>,
         world: &mut World,
         exprs: &[Expr],
     ) -> Result<Words, AllocError>
@@ -204,7 +199,7 @@ impl<'a> Scope<'a> {
         for k in 0..self.functions.len() {
             let function = &self.functions[k];
             if function.name.name.as_slice() == name {
-                let earlier = Scope {
+                let earlier = Declarations {
                     alloc: self.alloc,
                     hosts: self.hosts,
                     functions: &self.functions[..k],
@@ -229,20 +224,20 @@ impl<'a> Scope<'a> {
     {
         let mut env = bind(self.alloc, function.parameters.as_slice(), words)?;
         self.sequence(&mut env, world, function.body.as_slice())?;
-        self.evaluate(env.as_slice(), world, &function.gives)
+        self.evaluate(&env, world, &function.gives)
     }
 
     /// Executes statements in order.
     #[cycle(run)]
     fn sequence(
         &self,
-        env: &mut Vec<(Name, Held)>,
+        env: &mut Scope<Held>,
         world: &mut World,
         statements: &[Statement],
     ) -> Result<(), AllocError>
-        ensures { OnOk result (◌≡◌ {A = State} (record { env = env.new.items; world = world.new })
+        ensures { OnOk result (◌≡◌ {A = State} (record { env = env.new; world = world.new })
             (in_sequence (map (execution (host_names self.now.hosts.now)) statements.now)
-            (callees_of (host_names self.now.hosts.now) self.now.functions.now) (record { env = env.old.items; world = world.old }))) }
+            (callees_of (host_names self.now.hosts.now) self.now.functions.now) (record { env = env.old; world = world.old }))) }
     {
         for statement in statements {
             self.execute(env, world, statement)?;
@@ -254,40 +249,40 @@ impl<'a> Scope<'a> {
     #[cycle(run)]
     fn execute(
         &self,
-        env: &mut Vec<(Name, Held)>,
+        env: &mut Scope<Held>,
         world: &mut World,
         statement: &Statement,
     ) -> Result<(), AllocError>
-        ensures { OnOk result (◌≡◌ {A = State} (record { env = env.new.items; world = world.new })
+        ensures { OnOk result (◌≡◌ {A = State} (record { env = env.new; world = world.new })
             (execution (host_names self.now.hosts.now) statement.now (callees_of (host_names self.now.hosts.now) self.now.functions.now)
-            (record { env = env.old.items; world = world.old }))) }
+            (record { env = env.old; world = world.old }))) }
     {
         match statement {
             Statement::Let { name, value, .. } => {
-                let word = self.evaluate(env.as_slice(), world, value)?;
-                add_name(self.alloc, env, name.name.as_slice(), Held::Bound(word))
+                let word = self.evaluate(env, world, value)?;
+                env.add(name.name.as_slice(), Held::Bound(word))
             }
             Statement::Var { name, value, .. } => {
-                let word = self.evaluate(env.as_slice(), world, value)?;
-                add_name(self.alloc, env, name.name.as_slice(), Held::Cell(word))
+                let word = self.evaluate(env, world, value)?;
+                env.add(name.name.as_slice(), Held::Cell(word))
             }
             Statement::Array { name, length, .. } => {
                 let words = zeros(self.alloc, *length)?;
-                add_name(self.alloc, env, name.name.as_slice(), Held::Elements(words))
+                env.add(name.name.as_slice(), Held::Elements(words))
             }
             Statement::Store { name, value } => {
-                let word = self.evaluate(env.as_slice(), world, value)?;
+                let word = self.evaluate(env, world, value)?;
                 store(env, name.name.as_slice(), word);
                 Ok(())
             }
             Statement::Put { name, index, value } => {
-                let index = self.evaluate(env.as_slice(), world, index)?;
-                let word = self.evaluate(env.as_slice(), world, value)?;
+                let index = self.evaluate(env, world, index)?;
+                let word = self.evaluate(env, world, value)?;
                 write(env, name.name.as_slice(), index, word);
                 Ok(())
             }
             Statement::Output { value, host, .. } => {
-                let word = self.evaluate(env.as_slice(), world, value)?;
+                let word = self.evaluate(env, world, value)?;
                 world.output(place(self.hosts, host.name.as_slice()), word)
             }
             Statement::If {
@@ -296,7 +291,7 @@ impl<'a> Scope<'a> {
                 else_block,
                 ..
             } => {
-                let word = self.evaluate(env.as_slice(), world, guard)?;
+                let word = self.evaluate(env, world, guard)?;
                 if word == 0 {
                     self.block(env, world, else_block.as_slice())
                 } else {
@@ -321,13 +316,13 @@ impl<'a> Scope<'a> {
     #[cycle(run)]
     fn block(
         &self,
-        env: &mut Vec<(Name, Held)>,
+        env: &mut Scope<Held>,
         world: &mut World,
         body: &[Statement],
     ) -> Result<(), AllocError>
-        ensures { OnOk result (◌≡◌ {A = State} (record { env = env.new.items; world = world.new })
+        ensures { OnOk result (◌≡◌ {A = State} (record { env = env.new; world = world.new })
             (block_execution (map (execution (host_names self.now.hosts.now)) body.now)
-            (callees_of (host_names self.now.hosts.now) self.now.functions.now) (record { env = env.old.items; world = world.old }))) }
+            (callees_of (host_names self.now.hosts.now) self.now.functions.now) (record { env = env.old; world = world.old }))) }
     {
         let outer = env.len();
         self.sequence(env, world, body)?;
@@ -339,18 +334,18 @@ impl<'a> Scope<'a> {
     #[cycle(run)]
     fn turn(
         &self,
-        env: &mut Vec<(Name, Held)>,
+        env: &mut Scope<Held>,
         world: &mut World,
         name: &[u8],
         number: u32,
         body: &[Statement],
     ) -> Result<(), AllocError>
-        ensures { OnOk result (◌≡◌ {A = State} (record { env = env.new.items; world = world.new })
+        ensures { OnOk result (◌≡◌ {A = State} (record { env = env.new; world = world.new })
             (turn_execution name.now (map (execution (host_names self.now.hosts.now)) body.now)
-            (callees_of (host_names self.now.hosts.now) self.now.functions.now) number (record { env = env.old.items; world = world.old }))) }
+            (callees_of (host_names self.now.hosts.now) self.now.functions.now) number (record { env = env.old; world = world.old }))) }
     {
         let outer = env.len();
-        add_name(self.alloc, env, name, Held::Bound(number))?;
+        env.add(name, Held::Bound(number))?;
         self.sequence(env, world, body)?;
         env.truncate(outer);
         Ok(())

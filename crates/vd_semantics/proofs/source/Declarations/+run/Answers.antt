@@ -4,23 +4,23 @@ use Rattle.vd_semantics.specs.declared.held.Held.TheVariants.{Bound}
 use Rattle.vd_semantics.specs.SourceMeaning.{called, in_sequence, execution, callee_of, callees_of, host_names}
 use Rattle.vd_semantics.proofs.Sizes.{function_fits, statement_fits}
 use Rattle.vd_semantics.proofs.Lookup.{function_here, function_not_here, block_left}
-use Rattle.vd_semantics.proofs.source.Scope.+run.Goals as goal
+use Rattle.vd_semantics.proofs.source.Declarations.+run.Goals as goal
 
 pub block-returns : goal.block-returns
 block-returns t c =
     let hosts = host_names c.args.self.now.hosts.now in
-    block_left c.args.env.now.items c.sequence.new.env.items c.truncate.new.self.items c.len-outer.result c.args.world.now c.sequence.new.world
-    (in_sequence (map (execution hosts) c.args.body.now) (callees_of hosts c.args.self.now.functions.now) (record { env = c.args.env.now.items; world = c.args.world.now }))
-    (search (rules, c.len-outer.ensures)) c.truncate.ensures.items c.in_ok-sequence.ensures
+    block_left c.args.env.now c.sequence.new.env c.truncate.new.self c.len-outer.result c.args.world.now c.sequence.new.world
+    (in_sequence (map (execution hosts) c.args.body.now) (callees_of hosts c.args.self.now.functions.now) (record { env = c.args.env.now; world = c.args.world.now }))
+    (search (rules, c.len-outer.ensures)) c.truncate.ensures c.in_ok-sequence.ensures
 
 pub turn-returns : goal.turn-returns
 turn-returns t c =
     let hosts = host_names c.args.self.now.hosts.now in
     let callees = callees_of hosts c.args.self.now.functions.now in
-    block_left c.args.env.now.items c.sequence.new.env.items c.truncate.new.self.items c.len-outer.result c.args.world.now c.sequence.new.world
-    (in_sequence (map (execution hosts) c.args.body.now) callees (record { env = c.args.env.now.items ++ (c.args.name.now, Bound c.args.number) ∷ []; world = c.args.world.now }))
-    (search (rules, c.len-outer.ensures)) c.truncate.ensures.items
-    (c.in_ok-sequence.ensures ∙ ap (λ z. in_sequence (map (execution hosts) c.args.body.now) callees (record { env = z; world = c.args.world.now })) c.in_ok-add_name.ensures)
+    block_left c.args.env.now c.sequence.new.env c.truncate.new.self c.len-outer.result c.args.world.now c.sequence.new.world
+    (in_sequence (map (execution hosts) c.args.body.now) callees (record { env = c.args.env.now ++ (c.args.name.now, Bound c.args.number) ∷ []; world = c.args.world.now }))
+    (search (rules, c.len-outer.ensures)) c.truncate.ensures
+    (c.in_ok-sequence.ensures ∙ ap (λ z. in_sequence (map (execution hosts) c.args.body.now) callees (record { env = z; world = c.args.world.now })) c.in_ok-add.ensures.ok)
 
 pub call-enter-requires : goal.call-enter-requires
 call-enter-requires t c = (omega (arith, function_fits c.args.self.now.functions.now c.loop-k.k c.index-self-k.result c.loop-k-test.true), tt)

@@ -4,7 +4,7 @@ use Rattle.vd_base.specs.Names.{at_name}
 use Rattle.vd_semantics.specs.Turns.{turns}
 use Rattle.vd_semantics.specs.SourceMeaning.{State, chain_evaluation, evaluations, evaluation, evaluation_of_segment, in_sequence, turn_execution, execution, callees_of, host_names}
 use Rattle.vd_semantics.proofs.Sizes.{code_size, size_of, sizes, function_size}
-use Rattle.vd_semantics.proofs.source.Scope.+run.Given as goal
+use Rattle.vd_semantics.proofs.source.Declarations.+run.Given as goal
 
 abbrev pub decreases-evaluate : goal.decreases-evaluate
 decreases-evaluate l = 4 * (code_size l.self.now.functions.now + goal.size-evaluate l)
@@ -54,12 +54,12 @@ invariant-evaluate_all-loop-expr l =
 abbrev pub invariant-execute-loop-number : goal.invariant-execute-loop-number
 invariant-execute-loop-number l =
     let hosts = host_names l.self.hosts.now in
-    ◌≡◌ {A = State} (record { env = l.env.items; world = l.world })
-    (turns l.number (turn_execution l.name.name (map (execution hosts) l.body) (callees_of hosts l.self.functions.now)) (record { env = l.initial.env.items; world = l.initial.world }))
+    ◌≡◌ {A = State} (record { env = l.env; world = l.world })
+    (turns l.number (turn_execution l.name.name (map (execution hosts) l.body) (callees_of hosts l.self.functions.now)) (record { env = l.initial.env; world = l.initial.world }))
 
 abbrev pub invariant-sequence-loop-statement : goal.invariant-sequence-loop-statement
 invariant-sequence-loop-statement l =
     let hosts = host_names l.self.hosts.now in
     let callees = callees_of hosts l.self.functions.now in
-    in_sequence (map (execution hosts) (drop l.statement-index l.statements)) callees (record { env = l.env.items; world = l.world })
-    ≡ in_sequence (map (execution hosts) l.statements) callees (record { env = l.initial.env.items; world = l.initial.world })
+    in_sequence (map (execution hosts) (drop l.statement-index l.statements)) callees (record { env = l.env; world = l.world })
+    ≡ in_sequence (map (execution hosts) l.statements) callees (record { env = l.initial.env; world = l.initial.world })
