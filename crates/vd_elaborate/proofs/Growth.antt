@@ -24,7 +24,7 @@ use Rattle.vd_anf.specs.declared.spot.Spot.{Spot}
 use Rattle.vd_anf.specs.declared.spot.Spot.TheVariants.{Binding, Variable, Array}
 use Rattle.vd_anf.specs.Normal.{Made, Place, Lowering, StatementLowering, lowering, expr_lowering, lowering_of_segment, chain_made, all_made, lowering_of, statement_lowering, statements_made, inner_made, loop_made, inlining_of, inlinings_of, prefixes_made, put_made, emitted, emptied, with_slot, named_slot, slot, prefix_op, prefix_kind}
 use Rattle.vd_anf_wellformed.proofs.Front.{size, chain_more, expr_more, exprs_more, statements_more, call_more}
-use Rattle.vd_elaborate.specs.Scopes.{Fits}
+use Rattle.vd_elaborate.specs.Lowered.{Fits}
 
 -- operators before an operand
 prefixes_more : (ss : List Sign) (here : Here) (x : ℕ) (m : Made) → size m ≤ size (prefixes_made ss here x m).1

@@ -1,2 +1,2 @@
-pub mod Scopes
+pub mod Lowered
 pub mod Outputs

@@ -1,10 +1,10 @@
 //! Brings a resolved source into let-normal form.
 #![tactic(auto)]
 
+mod declarations;
 mod forms;
 mod made;
 mod names;
-mod scope;
 mod steps;
 mod walk;
 

@@ -2,7 +2,7 @@
 
 ghost use Rattle.std.specs.Prelude.{◌≡◌, ◌+◌, [], IfOk, OnOk};
 ghost use Rattle.vd_anf.specs.Normal.{with_slot, with_stmt, with_name_at, with_body, nameless, named_slot, emitted, kind_at, emptied, renamed};
-ghost use Rattle.vd_elaborate.specs.Scopes.{Fits, Gives};
+ghost use Rattle.vd_elaborate.specs.Lowered.{Fits, Gives};
 
 use crate::forms::{copy_name, copy_optional};
 use std::alloc::{AllocError, Global};

@@ -3,12 +3,13 @@
 ghost use Rattle.std.specs.Prelude.{◌≡◌, [], ◌∷◌, IfOk, OnOk};
 ghost use Rattle.vd_semantics.specs.SourceMeaning.{host_names};
 ghost use Rattle.vd_anf.specs.Normal.{emitted, lowering, infix_right, infix_kind, prefix_op, prefix_kind, prefixes_made, shift_op, name_made, get_made, copied, stored, put_made, scale_of, operation_made, kind_at, two as two_slots};
-ghost use Rattle.vd_elaborate.specs.Scopes.{Fits, Gives};
+ghost use Rattle.vd_elaborate.specs.Lowered.{Fits, Gives};
 
 use crate::made::Made;
+use crate::names::spot;
 use std::alloc::{AllocError, Global};
 use vd_anf::{Here, Spot};
-use vd_base::{Kind, Name, Op, SlotId, find_name};
+use vd_base::{Kind, Op, Scope, SlotId};
 use vd_base_lists::Items;
 use vd_core::{Direction, Expr, Host, Infix, Prefix, Right, Sign, Stmt};
 
@@ -212,14 +213,11 @@ pub(crate) fn put(
 }
 
 /// Whether an expression is a binding's name or a call, once its brackets are off.
-pub(crate) fn is_plain(hosts: &[Host], names: &[(Name, Spot)], expr: &Expr) -> bool
+pub(crate) fn is_plain(hosts: &[Host], names: &Scope<Spot>, expr: &Expr) -> bool
     ensures { result ≡ (lowering (host_names hosts.now) expr.now).plain names.now }
 {
     match expr {
-        Expr::Value(name) => matches!(
-            find_name(names, name.name.as_slice()),
-            Some(Spot::Binding(_))
-        ),
+        Expr::Value(name) => matches!(spot(names, name.name.as_slice()), Some(Spot::Binding(_))),
         Expr::Chain(first, segments) => segments.as_slice().is_empty()
             && is_plain(hosts, names, first),
         Expr::Call(_, _) => true,

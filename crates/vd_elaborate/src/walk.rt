@@ -5,19 +5,19 @@ ghost use Rattle.vd_base.specs.Limits.{most_hosts};
 ghost use Rattle.vd_semantics.specs.SourceMeaning.{host_names};
 ghost use Rattle.vd_anf.specs.Normal.{main_made, host_id, normal_form, written};
 ghost use Rattle.vd_elaborate.specs.Outputs.{KeepsOutputs};
-ghost use Rattle.vd_elaborate.specs.Scopes.{Fits, Gives, lowered, all_lowered, appended, chained, called, entered, place as at, stated, sequenced, inside, both, branched, in_turn, around};
+ghost use Rattle.vd_elaborate.specs.Lowered.{Fits, Gives, lowered, all_lowered, appended, chained, called, entered, place as at, stated, sequenced, inside, both, branched, in_turn, around};
 
+use crate::declarations::Declarations;
 use crate::forms::{copy_form, copy_label, copy_name};
 use crate::made::{Made, slot_of_name};
-use crate::names::bind;
-use crate::scope::Scope;
+use crate::names::{bind, spot};
 use crate::steps::{
     choose, copy, factor, infix, infix_gives, is_plain, of_element, of_name, operation, prefixes,
     put, shift_operation, store,
 };
 use std::alloc::{AllocError, Global};
 use vd_anf::{Here, Spot};
-use vd_base::{HostId, Kind, Name, Names, Op, SlotId, add_name, find_name};
+use vd_base::{HostId, Kind, Names, Op, Scope, SlotId};
 use vd_base_lists::Items;
 use vd_core::{
     Expr, Function, Host, Ident, NormalForm, Program, Right, Segment, Source, Statement, Stmt,
@@ -34,12 +34,12 @@ fn host_of(hosts: &[Host], host: &Ident) -> HostId
     HostId(place(hosts, host.name.as_slice()) as u8)
 }
 
-impl<'a> Scope<'a> {
+impl<'a> Declarations<'a> {
     /// Makes an expression, and gives the slot of its value.
     #[cycle(walk)]
     fn lower(
         &self,
-        names: &[(Name, Spot)],
+        names: &Scope<Spot>,
         made: &mut Made,
         here: Here,
         expr: &Expr,
@@ -55,19 +55,14 @@ impl<'a> Scope<'a> {
                 Kind::Bool,
                 Right::Lit(u32::from(*truth)),
             ),
-            Expr::Value(name) => of_name(
-                self.alloc,
-                made,
-                here,
-                find_name(names, name.name.as_slice()),
-            ),
+            Expr::Value(name) => of_name(self.alloc, made, here, spot(names, name.name.as_slice())),
             Expr::Element(name, index) => {
                 let index = self.lower(names, made, here, index)?;
                 of_element(
                     self.alloc,
                     made,
                     here,
-                    find_name(names, name.name.as_slice()),
+                    spot(names, name.name.as_slice()),
                     index,
                 )
             }
@@ -137,7 +132,7 @@ impl<'a> Scope<'a> {
     #[cycle(walk)]
     fn chain(
         &self,
-        names: &[(Name, Spot)],
+        names: &Scope<Spot>,
         made: &mut Made,
         here: Here,
         first: u16,
@@ -157,7 +152,7 @@ impl<'a> Scope<'a> {
     #[cycle(walk)]
     fn segment(
         &self,
-        names: &[(Name, Spot)],
+        names: &Scope<Spot>,
         made: &mut Made,
         here: Here,
         x: u16,
@@ -202,7 +197,7 @@ impl<'a> Scope<'a> {
     #[cycle(walk)]
     fn lower_all(
         &self,
-        names: &[(Name, Spot)],
+        names: &Scope<Spot>,
         made: &mut Made,
         here: Here,
         exprs: &[Expr],
@@ -233,7 +228,7 @@ impl<'a> Scope<'a> {
         for k in 0..self.functions.len() {
             let function = &self.functions[k];
             if function.name.name.as_slice() == name {
-                let earlier = Scope {
+                let earlier = Declarations {
                     alloc: self.alloc,
                     hosts: self.hosts,
                     functions: &self.functions[..k],
@@ -258,20 +253,20 @@ impl<'a> Scope<'a> {
     {
         let mut names = bind(self.alloc, function.parameters.as_slice(), slots)?;
         self.sequence(&mut names, made, here.block, function.body.as_slice())?;
-        self.lower(names.as_slice(), made, here, &function.gives)
+        self.lower(&names, made, here, &function.gives)
     }
 
     /// Makes statements in order, in the block of that number.
     #[cycle(walk)]
     fn sequence(
         &self,
-        names: &mut Vec<(Name, Spot)>,
+        names: &mut Scope<Spot>,
         made: &mut Made,
         block: u32,
         statements: &[Statement],
     ) -> Result<(), AllocError>
-        requires { Fits (sequenced self.now block statements.now (at names.old.items made.old)).made }
-        ensures { OnOk result (at names.new.items made.new ≡ sequenced self.now block statements.now (at names.old.items made.old)) }
+        requires { Fits (sequenced self.now block statements.now (at names.old made.old)).made }
+        ensures { OnOk result (at names.new made.new ≡ sequenced self.now block statements.now (at names.old made.old)) }
     {
         for statement in statements {
             self.statement(names, made, block, statement)?;
@@ -283,13 +278,13 @@ impl<'a> Scope<'a> {
     #[cycle(walk)]
     fn statement(
         &self,
-        names: &mut Vec<(Name, Spot)>,
+        names: &mut Scope<Spot>,
         made: &mut Made,
         block: u32,
         statement: &Statement,
     ) -> Result<(), AllocError>
-        requires { Fits (stated self.now block statement.now (at names.old.items made.old)).made }
-        ensures { OnOk result (at names.new.items made.new ≡ stated self.now block statement.now (at names.old.items made.old)) }
+        requires { Fits (stated self.now block statement.now (at names.old made.old)).made }
+        ensures { OnOk result (at names.new made.new ≡ stated self.now block statement.now (at names.old made.old)) }
     {
         match statement {
             Statement::Let {
@@ -302,11 +297,11 @@ impl<'a> Scope<'a> {
                     offset: at.start,
                     block,
                 };
-                let plain = is_plain(self.hosts, names.as_slice(), value);
-                let x = self.lower(names.as_slice(), made, here, value)?;
+                let plain = is_plain(self.hosts, names, value);
+                let x = self.lower(names, made, here, value)?;
                 let x = copy(self.alloc, made, here, plain, x)?;
                 made.rename(self.alloc, x, name, label)?;
-                add_name(self.alloc, names, name.name.as_slice(), Spot::Binding(x))
+                names.add(name.name.as_slice(), Spot::Binding(x))
             }
             Statement::Var {
                 at,
@@ -319,16 +314,11 @@ impl<'a> Scope<'a> {
                     offset: at.start,
                     block,
                 };
-                let x = self.lower(names.as_slice(), made, here, value)?;
+                let x = self.lower(names, made, here, value)?;
                 let slot = slot_of_name(self.alloc, here, name, *kind, label)?;
                 let next = made.next();
                 let variable = made.add(slot, Stmt::NewVar(SlotId(next), SlotId(x)))?;
-                add_name(
-                    self.alloc,
-                    names,
-                    name.name.as_slice(),
-                    Spot::Variable(variable),
-                )
+                names.add(name.name.as_slice(), Spot::Variable(variable))
             }
             Statement::Array {
                 at,
@@ -344,36 +334,31 @@ impl<'a> Scope<'a> {
                 let slot = slot_of_name(self.alloc, here, name, *kind, label)?;
                 let next = made.next();
                 let array = made.add(slot, Stmt::NewArray(SlotId(next), *length))?;
-                add_name(self.alloc, names, name.name.as_slice(), Spot::Array(array))
+                names.add(name.name.as_slice(), Spot::Array(array))
             }
             Statement::Store { name, value } => {
                 let here = Here {
                     offset: name.span.start,
                     block,
                 };
-                let x = self.lower(names.as_slice(), made, here, value)?;
-                store(made, find_name(names.as_slice(), name.name.as_slice()), x)
+                let x = self.lower(names, made, here, value)?;
+                store(made, spot(names, name.name.as_slice()), x)
             }
             Statement::Put { name, index, value } => {
                 let here = Here {
                     offset: name.span.start,
                     block,
                 };
-                let index = self.lower(names.as_slice(), made, here, index)?;
-                let x = self.lower(names.as_slice(), made, here, value)?;
-                put(
-                    made,
-                    find_name(names.as_slice(), name.name.as_slice()),
-                    index,
-                    x,
-                )
+                let index = self.lower(names, made, here, index)?;
+                let x = self.lower(names, made, here, value)?;
+                put(made, spot(names, name.name.as_slice()), index, x)
             }
             Statement::Output { at, value, host } => {
                 let here = Here {
                     offset: at.start,
                     block,
                 };
-                let x = self.lower(names.as_slice(), made, here, value)?;
+                let x = self.lower(names, made, here, value)?;
                 let host = host_of(self.hosts, host);
                 made.push(Stmt::Output(SlotId(x), host, at.start))
             }
@@ -387,7 +372,7 @@ impl<'a> Scope<'a> {
                     offset: at.start,
                     block,
                 };
-                let x = self.lower(names.as_slice(), made, here, guard)?;
+                let x = self.lower(names, made, here, guard)?;
                 let inner = made.begin_block();
                 let (then_body, else_body) = self.branches(
                     names,
@@ -419,17 +404,17 @@ impl<'a> Scope<'a> {
     #[cycle(walk)]
     fn branches(
         &self,
-        names: &mut Vec<(Name, Spot)>,
+        names: &mut Scope<Spot>,
         made: &mut Made,
         block: u32,
         then_block: &[Statement],
         else_block: &[Statement],
     ) -> Result<(Items<Stmt>, Items<Stmt>), AllocError>
-        requires { Fits (both self.now block names.old.items then_block.now else_block.now made.old) }
-        ensures then_body { IfOk result (λ b. b.0 ≡ (inside self.now block names.old.items then_block.now made.old).body) }
-        ensures else_body { IfOk result (λ b. b.1 ≡ (both self.now block names.old.items then_block.now else_block.now made.old).body) }
-        ensures made { OnOk result (made.new ≡ branched self.now block names.old.items then_block.now else_block.now made.old) }
-        ensures names { OnOk result (names.new.items ≡ names.old.items) }
+        requires { Fits (both self.now block names.old then_block.now else_block.now made.old) }
+        ensures then_body { IfOk result (λ b. b.0 ≡ (inside self.now block names.old then_block.now made.old).body) }
+        ensures else_body { IfOk result (λ b. b.1 ≡ (both self.now block names.old then_block.now else_block.now made.old).body) }
+        ensures made { OnOk result (made.new ≡ branched self.now block names.old then_block.now else_block.now made.old) }
+        ensures names { OnOk result (names.new ≡ names.old) }
     {
         let then_body = self.inner(names, made, block, then_block)?;
         let else_body = self.inner(names, made, block, else_block)?;
@@ -440,15 +425,15 @@ impl<'a> Scope<'a> {
     #[cycle(walk)]
     fn inner(
         &self,
-        names: &mut Vec<(Name, Spot)>,
+        names: &mut Scope<Spot>,
         made: &mut Made,
         block: u32,
         body: &[Statement],
     ) -> Result<Items<Stmt>, AllocError>
-        requires { Fits (inside self.now block names.old.items body.now made.old) }
-        ensures body { IfOk result (λ stmts. stmts ≡ (inside self.now block names.old.items body.now made.old).body) }
-        ensures made { OnOk result (made.new ≡ around made.old (inside self.now block names.old.items body.now made.old)) }
-        ensures names { OnOk result (names.new.items ≡ names.old.items) }
+        requires { Fits (inside self.now block names.old body.now made.old) }
+        ensures body { IfOk result (λ stmts. stmts ≡ (inside self.now block names.old body.now made.old).body) }
+        ensures made { OnOk result (made.new ≡ around made.old (inside self.now block names.old body.now made.old)) }
+        ensures names { OnOk result (names.new ≡ names.old) }
     {
         let outer = made.set_aside(self.alloc);
         let count = names.len();
@@ -461,23 +446,23 @@ impl<'a> Scope<'a> {
     #[cycle(walk)]
     fn turn(
         &self,
-        names: &mut Vec<(Name, Spot)>,
+        names: &mut Scope<Spot>,
         made: &mut Made,
         here: Here,
         name: &Ident,
         body: &[Statement],
     ) -> Result<Items<Stmt>, AllocError>
-        requires { Fits (in_turn self.now here name.now names.old.items body.now made.old) }
-        ensures body { IfOk result (λ stmts. stmts ≡ (in_turn self.now here name.now names.old.items body.now made.old).body) }
-        ensures made { OnOk result (made.new ≡ around made.old (in_turn self.now here name.now names.old.items body.now made.old)) }
-        ensures names { OnOk result (names.new.items ≡ names.old.items) }
+        requires { Fits (in_turn self.now here name.now names.old body.now made.old) }
+        ensures body { IfOk result (λ stmts. stmts ≡ (in_turn self.now here name.now names.old body.now made.old).body) }
+        ensures made { OnOk result (made.new ≡ around made.old (in_turn self.now here name.now names.old body.now made.old)) }
+        ensures names { OnOk result (names.new ≡ names.old) }
     {
         let outer = made.set_aside(self.alloc);
         let count = names.len();
         let slot = slot_of_name(self.alloc, here, name, Kind::Word, &None)?;
         let next = made.next();
         let turn = made.add(slot, Stmt::Let(SlotId(next), Right::Turn))?;
-        add_name(self.alloc, names, name.name.as_slice(), Spot::Binding(turn))?;
+        names.add(name.name.as_slice(), Spot::Binding(turn))?;
         self.sequence(names, made, here.block, body)?;
         names.truncate(count);
         Ok(made.take_back(outer))
@@ -522,14 +507,14 @@ fn make_main(alloc: Global, source: &Source) -> Result<Made, AllocError>
     requires fits { Fits (main_made source.now) }
     ensures { IfOk result (λ made. made ≡ main_made source.now) }
 {
-    let scope = Scope {
+    let declarations = Declarations {
         alloc,
         hosts: source.hosts.as_slice(),
         functions: source.functions.as_slice(),
     };
     let mut made = Made::at_start(alloc);
-    let mut names = Vec::new(alloc);
-    scope.sequence(&mut names, &mut made, 0, source.main.as_slice())?;
+    let mut names = Scope::new(alloc);
+    declarations.sequence(&mut names, &mut made, 0, source.main.as_slice())?;
     Ok(made)
 }
 

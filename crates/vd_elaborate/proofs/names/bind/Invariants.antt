@@ -5,4 +5,4 @@ use Rattle.vd_anf.specs.declared.spot.Spot.TheVariants.{Binding}
 use Rattle.vd_elaborate.proofs.names.bind.Given as goal
 
 abbrev pub invariant-loop-parameter : goal.invariant-loop-parameter
-invariant-loop-parameter l = l.names.items ++ bound Binding (parameter_names (drop l.parameter-index l.parameters)) l.left ≡ bound Binding (parameter_names l.parameters) l.slots
+invariant-loop-parameter l = l.names ++ bound Binding (parameter_names (drop l.parameter-index l.parameters)) l.left ≡ bound Binding (parameter_names l.parameters) l.slots

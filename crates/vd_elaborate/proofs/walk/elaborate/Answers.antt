@@ -8,7 +8,7 @@ use Rattle.vd_anf.proofs.Front.{outputs_kept}
 use Rattle.vd_core.specs.declared.source.Source.{Source}
 use Rattle.vd_anf.specs.Normal.{main_made}
 use Rattle.vd_anf_wellformed.proofs.Front.{main_size, within_limits, well_made}
-use Rattle.vd_elaborate.specs.Scopes.{Fits}
+use Rattle.vd_elaborate.specs.Lowered.{Fits}
 use Rattle.vd_elaborate.proofs.Growth.{hosts_length}
 use Rattle.vd_elaborate.proofs.walk.elaborate.Goals as goal
 

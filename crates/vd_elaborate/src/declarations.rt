@@ -8,7 +8,7 @@ use vd_core::{Function, Host};
 
 /// What a statement sees besides the names of values: the hosts, and the functions before it.
 #[derive(Drop)]
-pub(crate) struct Scope<'a> {
+pub(crate) struct Declarations<'a> {
     pub(crate) alloc: Global,
     pub(crate) hosts: &'a [Host],
     pub(crate) functions: &'a [Function],

@@ -1,4 +1,4 @@
-use Rattle.std.proofs.Common.{◌≡◌, ℕ, List, ◌∷◌, [], true, false, bytes_eq, get_or, IfOk, sym, ap, ◌∙◌, subst, append-nil, arith, rules}
+use Rattle.std.proofs.Common.{◌≡◌, ℕ, List, ◌∷◌, [], true, false, bytes_eq, get_or, IfOk, sym, ap, ◌∙◌, subst, append-nil, refl, arith, rules}
 use Rattle.vd_base.specs.Names.{bound}
 use Rattle.vd_core.specs.declared.source.Expr.TheFolds.{the_lemmas}
 use Rattle.vd_core.specs.declared.source.Statement.TheFolds.{the_lemmas as the_statements}
@@ -7,10 +7,10 @@ use Rattle.vd_semantics.proofs.Front.{function_fits, statement_fits, function_he
 use Rattle.vd_anf.specs.declared.spot.Spot.TheVariants.{Binding}
 use Rattle.vd_anf.specs.Normal.{Made, Place, call_made, inlining_of, inlinings_of}
 use Rattle.vd_anf_wellformed.proofs.Front.{size}
-use Rattle.vd_elaborate.specs.Scopes.{Fits, lowered, all_lowered, place, inside}
+use Rattle.vd_elaborate.specs.Lowered.{Fits, lowered, all_lowered, place, inside}
 use Rattle.vd_elaborate.proofs.Growth.{statement_within, expr_within, segment_within, chain_step, exprs_step, min_first, max_first, mux_first, unary_operand, chain_operand, call_arguments, part_fits, second_fits, inside_more, turn_more, body_within, put_index, guard_fits, block_fits}
 use Rattle.vd_elaborate.proofs.Blocks.{block_left}
-use Rattle.vd_elaborate.proofs.scope.Scope.+walk.Goals as goal
+use Rattle.vd_elaborate.proofs.declarations.Declarations.+walk.Goals as goal
 
 pub call-enter-requires : goal.call-enter-requires
 call-enter-requires t c =
@@ -44,22 +44,22 @@ sequence-statement-requires t c =
     let fits = c.requires in
     let same = ap (λ (p : Place). size p.made) c.loop-statement.invariant in
     let within = statement_within (host_names c.args.self.now.hosts.now) c.args.self.now.functions.now c.args.statements.now c.loop-statement.statement-index c.statement-item.result c.args.block
-    (place c.loop-statement.names.items c.loop-statement.made) c.loop-statement-test.true c.statement-item.is in
+    (place c.loop-statement.names c.loop-statement.made) c.loop-statement-test.true c.statement-item.is in
     (omega (arith, statement_fits c.args.statements.now c.loop-statement.statement-index c.statement-item.result c.loop-statement-test.true c.statement-item.is), omega arith)
 
 pub inner-returns-clause-names : goal.inner-returns-clause-names
 inner-returns-clause-names t c =
     let hosts = host_names c.args.self.now.hosts.now in
-    let start : Place = record { names = c.args.names.now.items; made = c.set_aside-outer.new.self } in
-    block_left hosts c.args.body.now (inlinings_of hosts c.args.self.now.functions.now) c.args.block start c.sequence.new.made c.args.names.now.items c.sequence.new.names.items c.truncate.new.self.items c.len-count.result
-    (search (rules, c.len-count.ensures)) c.truncate.ensures.items c.in_ok-sequence.ensures [] (sym (append-nil c.args.names.now.items))
+    let start : Place = record { names = c.args.names.now; made = c.set_aside-outer.new.self } in
+    block_left hosts c.args.body.now (inlinings_of hosts c.args.self.now.functions.now) c.args.block start c.sequence.new.made c.args.names.now c.sequence.new.names c.truncate.new.self c.len-count.result
+    (search (rules, c.len-count.ensures)) c.truncate.ensures c.in_ok-sequence.ensures [] (sym (append-nil c.args.names.now))
 
 pub turn-returns-clause-names : goal.turn-returns-clause-names
 turn-returns-clause-names t c =
     let hosts = host_names c.args.self.now.hosts.now in
-    let start : Place = record { names = c.add_name.new.names.items; made = c.add.new.self } in
-    block_left hosts c.args.body.now (inlinings_of hosts c.args.self.now.functions.now) c.args.here.block start c.sequence.new.made c.args.names.now.items c.sequence.new.names.items c.truncate.new.self.items c.len-count.result
-    (search (rules, c.len-count.ensures)) c.truncate.ensures.items c.in_ok-sequence.ensures ((c.as_slice.result.now, Binding c.in_ok-turn.turn) ∷ []) c.in_ok-add_name.ensures
+    let start : Place = record { names = c.add-2.new.self; made = c.add.new.self } in
+    block_left hosts c.args.body.now (inlinings_of hosts c.args.self.now.functions.now) c.args.here.block start c.sequence.new.made c.args.names.now c.sequence.new.names c.truncate.new.self c.len-count.result
+    (search (rules, c.len-count.ensures)) c.truncate.ensures c.in_ok-sequence.ensures ((c.as_slice.result.now, Binding c.in_ok-turn.turn) ∷ []) c.in_ok-add.ensures.ok
 
 pub lower-lower-requires-in-Min : goal.lower-lower-requires-in-Min
 lower-lower-requires-in-Min t c =
@@ -123,37 +123,37 @@ chain-loop-segment-preserved t c =
 pub enter-sequence-requires : goal.enter-sequence-requires
 enter-sequence-requires t c =
     let bind = c.in_ok-names.ensures ∙ ap (λ parameters. bound Binding (parameter_names parameters) c.args.slots.now) c.as_slice.ensures in
-    (search (rules, the_lemmas, the_statements), body_within (host_names c.args.self.now.hosts.now) c.args.self.now.functions.now c.args.function.now c.args.here c.args.slots.now c.in_ok-names.names.items c.args.made.now c.as_slice-2.result.now bind c.as_slice-2.ensures c.requires)
+    (search (rules, the_lemmas, the_statements), body_within (host_names c.args.self.now.hosts.now) c.args.self.now.functions.now c.args.function.now c.args.here c.args.slots.now c.in_ok-names.names c.args.made.now c.as_slice-2.result.now bind c.as_slice-2.ensures c.requires)
 
 pub branches-inner-requires : goal.branches-inner-requires
 branches-inner-requires t c =
     let fits = c.requires in
-    let more = inside_more (host_names c.args.self.now.hosts.now) c.args.self.now.functions.now c.args.else_block.now c.args.block c.args.names.now.items (inside c.args.self.now c.args.block c.args.names.now.items c.args.then_block.now c.args.made.now) in
+    let more = inside_more (host_names c.args.self.now.hosts.now) c.args.self.now.functions.now c.args.else_block.now c.args.block c.args.names.now (inside c.args.self.now c.args.block c.args.names.now c.args.then_block.now c.args.made.now) in
     (search (rules, the_lemmas, the_statements), omega arith)
 
 pub statement-lower-requires-in-Put : goal.statement-lower-requires-in-Put
 statement-lower-requires-in-Put t c = (
   search (rules, the_lemmas, the_statements),
-  put_index (host_names c.args.self.now.hosts.now) c.args.self.now.functions.now c.args.statement.now c.in-Put.name c.in-Put.index c.in-Put.value c.args.block c.args.names.now.items c.as_slice-in-Put.result.now c.args.made.now
-      c.in-Put.is c.as_slice-in-Put.ensures.value c.requires,
+  put_index (host_names c.args.self.now.hosts.now) c.args.self.now.functions.now c.args.statement.now c.in-Put.name c.in-Put.index c.in-Put.value c.args.block c.args.names.now c.args.names.now c.args.made.now
+      c.in-Put.is refl c.requires,
 )
 
 pub statement-lower-requires-in-If : goal.statement-lower-requires-in-If
 statement-lower-requires-in-If t c = (
   search (rules, the_lemmas, the_statements),
-  guard_fits (host_names c.args.self.now.hosts.now) c.args.self.now.functions.now c.args.statement.now c.in-If.at c.in-If.guard c.in-If.then_block c.in-If.else_block c.args.block c.args.names.now.items c.as_slice-in-If.result.now c.args.made.now
-      c.in-If.is c.as_slice-in-If.ensures.value c.requires,
+  guard_fits (host_names c.args.self.now.hosts.now) c.args.self.now.functions.now c.args.statement.now c.in-If.at c.in-If.guard c.in-If.then_block c.in-If.else_block c.args.block c.args.names.now c.args.names.now c.args.made.now
+      c.in-If.is refl c.requires,
 )
 
 pub statement-begin_block-inner-requires : goal.statement-begin_block-inner-requires
 statement-begin_block-inner-requires t c =
-    block_fits (host_names c.args.self.now.hosts.now) c.args.self.now.functions.now c.args.statement.now c.in-If.at c.in-If.guard c.in-If.then_block c.in-If.else_block c.args.block c.args.names.now.items c.as_slice-in-If.result.now c.args.made.now
-    (c.in_ok-x-in-If.x, c.lower-in-If.new.made) c.in-If.is c.as_slice-in-If.ensures.value c.in_ok-x-in-If.ensures c.requires
+    block_fits (host_names c.args.self.now.hosts.now) c.args.self.now.functions.now c.args.statement.now c.in-If.at c.in-If.guard c.in-If.then_block c.in-If.else_block c.args.block c.args.names.now c.args.names.now c.args.made.now
+    (c.in_ok-x-in-If.x, c.lower-in-If.new.made) c.in-If.is refl c.in_ok-x-in-If.ensures c.requires
 
 pub turn-add-requires : goal.turn-add-requires
 turn-add-requires t c =
     let fits = c.requires in
-    let more = turn_more (host_names c.args.self.now.hosts.now) c.args.self.now.functions.now c.args.name.now c.args.body.now c.args.here c.args.names.now.items c.args.made.now in
+    let more = turn_more (host_names c.args.self.now.hosts.now) c.args.self.now.functions.now c.args.name.now c.args.body.now c.args.here c.args.names.now c.args.made.now in
     let same = ap size c.set_aside-outer.ensures.rest in
     omega arith
 

@@ -3,7 +3,7 @@ use Rattle.vd_base.specs.Names.{at_name}
 use Rattle.vd_semantics.specs.SourceMeaning.{host_names}
 use Rattle.vd_semantics.proofs.Front.{code_size, size_of, sizes, function_size}
 use Rattle.vd_anf.specs.Normal.{Made, lowering, lowering_of_segment, chain_made, all_made, lowering_of, statements_made, inlinings_of}
-use Rattle.vd_elaborate.proofs.scope.Scope.+walk.Given as goal
+use Rattle.vd_elaborate.proofs.declarations.Declarations.+walk.Given as goal
 
 abbrev pub decreases-lower : goal.decreases-lower
 decreases-lower l = 4 * (code_size l.self.now.functions.now + goal.size-lower l)
@@ -60,5 +60,5 @@ abbrev pub invariant-sequence-loop-statement : goal.invariant-sequence-loop-stat
 invariant-sequence-loop-statement l =
     let hosts = host_names l.self.hosts.now in
     let is = inlinings_of hosts l.self.functions.now in
-    statements_made (map (lowering_of hosts) (drop l.statement-index l.statements)) is l.block (record { names = l.names.items; made = l.made })
-    ≡ statements_made (map (lowering_of hosts) l.statements) is l.block (record { names = l.initial.names.items; made = l.initial.made })
+    statements_made (map (lowering_of hosts) (drop l.statement-index l.statements)) is l.block (record { names = l.names; made = l.made })
+    ≡ statements_made (map (lowering_of hosts) l.statements) is l.block (record { names = l.initial.names; made = l.initial.made })
