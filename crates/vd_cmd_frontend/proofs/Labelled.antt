@@ -1,20 +1,22 @@
 -- The steps of the command `labels`.
-use Rattle.std.proofs.Common.{◌≡◌, ℕ, ◌<◌, Result, List, [], length, sym, ap, ◌∙◌, subst, arith}
+use Rattle.std.proofs.Common.{◌≡◌, ℕ, ◌<◌, Result, List, [], length, refl, sym, ap, ◌∙◌, subst, arith}
 use Rattle.std.specs.Prelude.{Ok, Err}
 use Rattle.std.proofs.lemmas.List.Elements.{All-nil}
 use Rattle.std.proofs.lemmas.Option.{slice_get_within}
 use Rattle.vd_core.specs.declared.normal.NormalForm.{NormalForm}
+use Rattle.vd_constraints.specs.Origins.{origins_of}
 use Rattle.vd_constraints.specs.Rules.{system_of}
 use Rattle.vd_constraints.specs.Satisfies.{HoldsCheck, IsLabelling, SolvesRules, IsLeastSolution, IsLeast}
 use Rattle.vd_constraints.specs.Systems.{Constraints, IsCheckOf, IsSystem}
 use Rattle.vd_constraints.specs.Outcomes.{HasNoLabelling, IsLabelled}
 use Rattle.vd_constraints.specs.declared.labels.Labels.{Labels}
+use Rattle.vd_constraints.specs.declared.origin.Origin.{Origin}
 use Rattle.vd_constraints.specs.declared.system.Check.{Check}
 use Rattle.vd_labels_least.proofs.Front.{labelling_of, labelling_is, labelled_once}
 use Rattle.vd_cmd_plan.specs.declared.status.FlowFault.{FlowFault}
 use Rattle.vd_cmd_plan.specs.declared.status.Status.TheVariants.{Flow}
 use Rattle.vd_cmd_frontend.specs.Outcomes.{LabelOutcomes}
-use Rattle.vd_cmd_frontend.specs.Labelling.{as_labels, check_at, fault_of, labels_of}
+use Rattle.vd_cmd_frontend.specs.Labelling.{as_labels, fault_of, labels_of}
 
 -- the one outcome of a system is the one that was found
 pub labelled : (least : LabelOutcomes) (program : NormalForm) (result : Result Labels ℕ) → IsSystem (system_of program) → IsLabelled (system_of program) result → labels_of least program ≡ as_labels least program result
@@ -91,17 +93,21 @@ pub check_within : (s : Constraints) (checks : List Check) (number : ℕ) → ch
 check_within s checks number same refused =
     subst (λ (cs : List Check). number < length cs) (sym same) (slice_get_within s.checks number refused.first.item refused.first.there)
 
+-- and that of what asks for it
+pub origin_within : (s : Constraints) (origins : List Origin) (number : ℕ) → length origins ≡ length s.checks → HasNoLabelling s number → number < length origins
+origin_within s origins number as_many refused = subst (λ n. number < n) (sym as_many) (check_within s s.checks number refl refused)
+
 module _ (least : LabelOutcomes) (p : NormalForm) (s : Constraints) (is : s ≡ system_of p) (valid : IsSystem s) where
   -- the least labels
   pub labels_found : (labels : Labels) → IsLabelled s (Ok labels) → labels_of least p ≡ Ok labels
   labels_found labels found = labelled least p (Ok labels) (subst IsSystem is valid) (subst (λ (t : Constraints). IsLabelled t (Ok labels)) is found)
 
   -- or the first check that fails, with what is carried of it
-  pub none_found : (number : ℕ) (solution : Labels) (checks : List Check) (form : NormalForm) (fault : FlowFault) → IsLabelled s (Err number) → IsLeastSolution s solution → checks ≡ s.checks → form ≡ p
-      → fault ≡ fault_of form solution number (check_at checks number) → labels_of least p ≡ Err (Flow fault)
-  none_found number solution checks form fault refused solves same_checks same_form carries =
+  pub none_found : (number : ℕ) (solution : Labels) (checks : List Check) (origins : List Origin) (form : NormalForm) (fault : FlowFault) → IsLabelled s (Err number) → IsLeastSolution s solution → checks ≡ s.checks → origins ≡ origins_of p → form ≡ p
+      → fault ≡ fault_of form solution checks origins number → labels_of least p ≡ Err (Flow fault)
+  none_found number solution checks origins form fault refused solves same_checks same_origins same_form carries =
       let once : solution ≡ least.solution s = solution_once s solution (least.solution s) solves (least.solution_is s valid) in
       labelled least p (Err number) (subst IsSystem is valid) (subst (λ (t : Constraints). IsLabelled t (Err number)) is refused)
-      ∙ ap (λ (t : Constraints). Err (Flow (fault_of p (least.solution t) number (check_at t.checks number)))) (sym is)
-      ∙ sym (λ i. Err (Flow (fault_of (same_form i) (once i) number (check_at (same_checks i) number))))
+      ∙ ap (λ (t : Constraints). Err (Flow (fault_of p (least.solution t) t.checks (origins_of p) number))) (sym is)
+      ∙ sym (λ i. Err (Flow (fault_of (same_form i) (once i) (same_checks i) (same_origins i) number)))
       ∙ ap (λ (f : FlowFault). Err (Flow f)) (sym carries)

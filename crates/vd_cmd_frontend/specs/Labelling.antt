@@ -7,6 +7,8 @@ use Rattle.vd_anf.specs.Normal.{normal_form}
 use Rattle.vd_formula.specs.TruthTable.{any_of}
 use Rattle.vd_constraints.specs.Rules.{check, conf, system_of}
 use Rattle.vd_constraints.specs.Satisfies.{formula_at}
+use Rattle.vd_constraints.specs.Origins.{origins_of}
+use Rattle.vd_constraints.specs.declared.origin.Origin.{Origin}
 use Rattle.vd_constraints.specs.declared.origin.Origin.TheVariants.{Endorse}
 use Rattle.vd_constraints.specs.declared.system.Place.TheVariants.{Block}
 use Rattle.vd_constraints.specs.declared.labels.Labels.{Labels}
@@ -22,19 +24,29 @@ use Rattle.vd_cmd_plan.specs.declared.status.Status.TheVariants.{Flow}
 
 -- the check with this number; where there is none, one of nothing
 abbrev pub no_check : Check
-no_check = check (any_of 0) (conf (Block 0)) 0 Endorse
+no_check = check (any_of 0) (conf (Block 0)) 0
 
 abbrev pub check_at : List Check → (number : ℕ) → Check
 check_at checks number = slice_index_or checks number no_check
 
--- what is carried of a check of a program, which fails at this solution of its rules
-abbrev pub fault_of : NormalForm → (solution : Labels) → (number : ℕ) → Check → FlowFault
-fault_of program solution number check =
-    record { number = number; check = check; asked = formula_at solution check.part; principals = program.principals; hosts = program.hosts }
+-- what asks for the check with this number
+abbrev pub origin_at : List Origin → (number : ℕ) → Origin
+origin_at origins number = slice_index_or origins number Endorse
+
+-- what is carried of the check of a program with this number, which fails at this solution of its rules
+abbrev pub fault_of : NormalForm → (solution : Labels) → List Check → List Origin → (number : ℕ) → FlowFault
+fault_of program solution checks origins number = record {
+  number = number;
+  check = check_at checks number;
+  origin = origin_at origins number;
+  asked = formula_at solution (check_at checks number).part;
+  principals = program.principals;
+  hosts = program.hosts;
+}
 
 -- of the check with this number, at the least solution
 abbrev pub flow_fault : LabelOutcomes → NormalForm → (number : ℕ) → FlowFault
-flow_fault least program number = fault_of program (least.solution (system_of program)) number (check_at (system_of program).checks number)
+flow_fault least program number = fault_of program (least.solution (system_of program)) (system_of program).checks (origins_of program) number
 
 -- the labels of a program, or the status of its refusal
 abbrev pub as_labels : LabelOutcomes → NormalForm → Result Labels ℕ → Result Labels Status

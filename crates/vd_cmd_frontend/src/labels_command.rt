@@ -6,14 +6,14 @@ ghost use Rattle.vd_constraints.specs.Satisfies.{IsLeast};
 ghost use Rattle.vd_outside.specs.Files.{FilesView};
 ghost use Rattle.vd_cmd_plan.specs.Plans.{Checks, Computes, Executes, ended};
 ghost use Rattle.vd_cmd_frontend.specs.Outcomes.{LabelOutcomes};
-ghost use Rattle.vd_cmd_frontend.specs.Labelling.{check_at, fault_of, labels_of, labels_text as text_of_labels, program_plan, labelled_plan, ExecutesLabels};
+ghost use Rattle.vd_cmd_frontend.specs.Labelling.{fault_of, labels_of, labels_text as text_of_labels, program_plan, labelled_plan, ExecutesLabels};
 
 use crate::sources::load_source;
 use std::alloc::{AllocError, Global};
 use vd_base::{Name, Names};
 use vd_base_lists::Items;
 use vd_cmd_plan::{Answer, FlowFault, Status};
-use vd_constraints::{Check, Labels, constraints};
+use vd_constraints::{Check, Labels, Origin, constraints};
 use vd_core::{NormalForm, Program};
 use vd_elaborate::elaborate;
 use vd_outside::Files;
@@ -26,14 +26,15 @@ pub fn least_labels(alloc: Global, program: &Program) -> Result<Labels, Status>
     ensures checks { (least : LabelOutcomes) → Checks (labels_of least program.now) result }
     ensures least { IfOk result (IsLeast (system_of program.now)) }
 {
-    let system = constraints(alloc, program)?;
-    let checks = system.checks();
-    let solved = solve(alloc, &system)?;
+    let collected = constraints(alloc, program)?;
+    let checks = collected.system.checks();
+    let solved = solve(alloc, &collected.system)?;
     match solved {
         Ok(labels) => Ok(labels),
         Err(number) => {
-            let solution = solve_rules(alloc, &system)?;
-            let fault = flow_fault(alloc, program.form(), checks, &solution, number)?;
+            let solution = solve_rules(alloc, &collected.system)?;
+            let origins = collected.origins.as_slice();
+            let fault = flow_fault(alloc, program.form(), checks, origins, &solution, number)?;
             Err(Status::Flow(fault))
         }
     }
@@ -44,11 +45,13 @@ fn flow_fault(
     alloc: Global,
     form: &NormalForm,
     checks: &[Check],
+    origins: &[Origin],
     solution: &Labels,
     number: u32,
 ) -> Result<FlowFault, AllocError>
-    requires { number < length checks.now }
-    ensures { IfOk result (λ fault. fault ≡ fault_of form.now solution.now number (check_at checks.now number)) }
+    requires check { number < length checks.now }
+    requires origin { number < length origins.now }
+    ensures { IfOk result (λ fault. fault ≡ fault_of form.now solution.now checks.now origins.now number) }
 {
     let check = checks[number as usize];
     let principals = copy_of(alloc, &form.principals)?;
@@ -56,6 +59,7 @@ fn flow_fault(
     Ok(FlowFault {
         number,
         check,
+        origin: origins[number as usize],
         asked: solution.part(check.part),
         principals,
         hosts,

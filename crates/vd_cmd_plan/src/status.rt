@@ -8,7 +8,7 @@ use crate::labelled::Labelled;
 use std::alloc::AllocError;
 use vd_base::{Name, Names, Text};
 use vd_bound::CheckFault;
-use vd_constraints::Check;
+use vd_constraints::{Check, Origin};
 use vd_deal_items::{BadItem, DealKind};
 use vd_formula::Formula;
 use vd_parser::ParseFault;
@@ -22,11 +22,13 @@ pub struct FlowFault {
     pub number: u32,
     /// The check, whose constant does not act for its part.
     pub check: Check,
+    /// What asks for the check.
+    pub origin: Origin,
     /// The formula that its part has there.
     pub asked: Formula,
     /// The names that both formulas are over.
     pub principals: Names,
-    /// The names of the hosts, of which the check may have one.
+    /// The names of the hosts, of which the origin may have one.
     pub hosts: Names,
 }
 

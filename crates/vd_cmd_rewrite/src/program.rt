@@ -21,8 +21,8 @@ use vd_solver::solve;
 fn labels_if_any(alloc: Global, program: &Program) -> Result<Option<Labels>, AllocError>
     ensures { IfOk result (IsFound program.now) }
 {
-    let system = constraints(alloc, program)?;
-    let solved = solve(alloc, &system)?;
+    let collected = constraints(alloc, program)?;
+    let solved = solve(alloc, &collected.system)?;
     match solved {
         Ok(labels) => Ok(Some(labels)),
         Err(_check) => Ok(None),

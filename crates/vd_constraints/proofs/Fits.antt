@@ -2,7 +2,6 @@
 use Rattle.std.proofs.Common.{ℕ, List}
 use Rattle.std.specs.Prelude.{All}
 use Rattle.std.proofs.lemmas.List.Elements.{All-from_recursion}
-use Rattle.vd_base.specs.declared.ids.HostId.{HostId}
 use Rattle.vd_formula.specs.TruthTable.{TruthTable}
 use Rattle.vd_formula.specs.declared.label.Label.{Label}
 use Rattle.vd_constraints.specs.declared.system.Place.{Place}
@@ -27,17 +26,17 @@ module _ (names slots blocks : ℕ) where
     fit_input_rules =
         All-from_recursion (IsRuleIn names slots blocks) (input_rules host pc x) (record { part = is_x; bound = is_host.conf }, (record { part = is_pc; bound = is_host.integ }, tt))
 
-    pub fit_input_checks : (offset : ℕ) (h : HostId) → FitChecks (input_checks host pc x offset h)
-    fit_input_checks offset h =
-        All-from_recursion (IsCheckIn names slots blocks) (input_checks host pc x offset h) (record { constant = is_host.integ; part = is_x }, (record { constant = is_host.conf; part = is_pc }, tt))
+    pub fit_input_checks : (offset : ℕ) → FitChecks (input_checks host pc x offset)
+    fit_input_checks offset =
+        All-from_recursion (IsCheckIn names slots blocks) (input_checks host pc x offset) (record { constant = is_host.integ; part = is_x }, (record { constant = is_host.conf; part = is_pc }, tt))
 
     pub fit_output_rules : FitRules (output_rules host pc x)
     fit_output_rules =
         All-from_recursion (IsRuleIn names slots blocks) (output_rules host pc x) (record { part = is_x; bound = is_host.integ }, (record { part = is_pc; bound = is_host.integ }, tt))
 
-    pub fit_output_checks : (offset : ℕ) (h : HostId) → FitChecks (output_checks host pc x offset h)
-    fit_output_checks offset h =
-        All-from_recursion (IsCheckIn names slots blocks) (output_checks host pc x offset h) (record { constant = is_host.conf; part = is_x }, (record { constant = is_host.conf; part = is_pc }, tt))
+    pub fit_output_checks : (offset : ℕ) → FitChecks (output_checks host pc x offset)
+    fit_output_checks offset =
+        All-from_recursion (IsCheckIn names slots blocks) (output_checks host pc x offset) (record { constant = is_host.conf; part = is_x }, (record { constant = is_host.conf; part = is_pc }, tt))
 
   module _ (written : Label) (x : Place) (is : IsLabelOver names written) (is_x : IsPlaceIn slots blocks x) where
     pub fit_written_rules : FitRules (written_rules written x)

@@ -8,3 +8,4 @@ mod Firsts
 mod InSight
 mod Growth
 mod Few
+mod Asking

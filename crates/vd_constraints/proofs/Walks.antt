@@ -10,6 +10,7 @@ use Rattle.vd_core.specs.declared.normal.Stmt.TheVariants.{If}
 use Rattle.vd_core.specs.declared.normal.Stmt.TheOpen.{Stmt-F}
 use Rattle.vd_core.specs.declared.normal.NormalForm.{NormalForm}
 use Rattle.vd_core.specs.declared.normal.Stmt.TheFolds.{the_lemmas}
+use Rattle.vd_constraints.specs.declared.origin.Origin.{Origin}
 use Rattle.vd_constraints.specs.declared.system.Place.{Place}
 use Rattle.vd_constraints.specs.Systems.{Constraints, IsPlaceOf, IsPlaceIn}
 use Rattle.vd_constraints.specs.Extends.{Extends}
@@ -33,6 +34,12 @@ place_kept s t at more is =
 pub record WalkSoFar (start here left wanted : Constraints) : Type 0 where
   pub left_is : left ≡ wanted
   pub extends : Extends start here
+
+-- and what is found to ask, with what is left of it, is all that asks
+pub record BodySoFar (start here left wanted : Constraints) (found all : List Origin) : Type 0 where
+  pub left_is : left ≡ wanted
+  pub extends : Extends start here
+  pub asked : found ≡ all
 
 all_at : {X : Type 0} (test : X → Bool) (xs : List X) (i : ℕ) (d : X) → i < length xs → IsTrue (list_all test xs) → IsTrue (test (get_or xs i d))
 all_at test [] i d h all = absurd (omega arith)

@@ -3,4 +3,5 @@ pub mod Satisfies
 pub mod Scoped
 pub mod Extends
 pub mod Rules
+pub mod Origins
 pub mod Outcomes

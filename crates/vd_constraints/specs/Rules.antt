@@ -15,8 +15,6 @@ use Rattle.vd_core.specs.declared.normal.NormalForm.{NormalForm}
 use Rattle.vd_formula.specs.TruthTable.{TruthTable, any_of}
 use Rattle.vd_formula.specs.Forms.{formula_of}
 use Rattle.vd_formula.specs.declared.label.Label.{Label}
-use Rattle.vd_constraints.specs.declared.origin.Origin.{Origin}
-use Rattle.vd_constraints.specs.declared.origin.Origin.TheVariants as origin
 use Rattle.vd_constraints.specs.declared.system.Place.{Place}
 use Rattle.vd_constraints.specs.declared.system.Place.TheVariants.{Slot, Block}
 use Rattle.vd_constraints.specs.declared.system.Part.{Part}
@@ -37,9 +35,9 @@ integ at = record { at = at; integ = true }
 abbrev pub rule : Part → Bound → Lower
 rule part bound = record { part = part; bound = bound }
 
--- the constant acts for the part; where in the source this is asked, and by what
-abbrev pub check : TruthTable → Part → ℕ → Origin → Check
-check constant part offset by = record { constant = constant; part = part; offset = offset; origin = by }
+-- the constant acts for the part; where in the source this is asked
+abbrev pub check : TruthTable → Part → ℕ → Check
+check constant part offset = record { constant = constant; part = part; offset = offset }
 
 -- what is at the one place may go to the other
 abbrev pub flows : Place → Place → List Lower
@@ -70,8 +68,8 @@ written_at p x = option_and_then (λ slot. option_map (label p) slot.label) (sli
 abbrev pub input_rules : Label → Place → Place → List Lower
 input_rules host pc x = rule (conf x) (Constant host.conf) ∷ rule (integ pc) (Constant host.integ) ∷ []
 
-abbrev pub input_checks : Label → Place → Place → ℕ → HostId → List Check
-input_checks host pc x offset h = check host.integ (integ x) offset (origin.Input h) ∷ check host.conf (conf pc) offset (origin.Asked h) ∷ []
+abbrev pub input_checks : Label → Place → Place → ℕ → List Check
+input_checks host pc x offset = check host.integ (integ x) offset ∷ check host.conf (conf pc) offset ∷ []
 
 -- the new confidentiality; y, and the block, must be trusted by all who could not read y before
 abbrev pub declassify_rules : TruthTable → Place → Place → Place → List Lower
@@ -94,21 +92,21 @@ endorse_rules to pc x y =
     ∷ []
 
 abbrev pub endorse_checks : TruthTable → Place → ℕ → List Check
-endorse_checks to x offset = check to (integ x) offset origin.Endorse ∷ []
+endorse_checks to x offset = check to (integ x) offset ∷ []
 
 -- a host that is told y may read it and whether it is told, and trusts both
 abbrev pub output_rules : Label → Place → Place → List Lower
 output_rules host pc y = rule (integ y) (Constant host.integ) ∷ rule (integ pc) (Constant host.integ) ∷ []
 
-abbrev pub output_checks : Label → Place → Place → ℕ → HostId → List Check
-output_checks host pc y offset h = check host.conf (conf y) offset (origin.Output h) ∷ check host.conf (conf pc) offset (origin.Told h) ∷ []
+abbrev pub output_checks : Label → Place → Place → ℕ → List Check
+output_checks host pc y offset = check host.conf (conf y) offset ∷ check host.conf (conf pc) offset ∷ []
 
 -- a label that the source writes at x holds both ways
 abbrev pub written_rules : Label → Place → List Lower
 written_rules written x = rule (conf x) (Constant written.conf) ∷ rule (integ x) (Constant written.integ) ∷ []
 
 abbrev pub written_checks : Label → Place → ℕ → List Check
-written_checks written x offset = check written.conf (conf x) offset origin.Readers ∷ check written.integ (integ x) offset origin.Answerers ∷ []
+written_checks written x offset = check written.conf (conf x) offset ∷ check written.integ (integ x) offset ∷ []
 
 -- what a right side asks of its slot x, in a block whose label is at pc
 abbrev pub right_rules : NormalForm → Place → SlotId → Right → List Lower
@@ -129,7 +127,7 @@ right_checks p pc x (Copy y) = []
 right_checks p pc x (Load v) = []
 right_checks p pc x (Apply op ys) = []
 right_checks p pc x (Get v i) = []
-right_checks p pc x (Input h) = input_checks (host_label p h) pc (Slot x) (offset_of p x) h
+right_checks p pc x (Input h) = input_checks (host_label p h) pc (Slot x) (offset_of p x)
 right_checks p pc x (Declassify y form) = []
 right_checks p pc x (Endorse y form) = endorse_checks (formula p form) (Slot x) (offset_of p x)
 
@@ -147,8 +145,8 @@ with_block s = record s { blocks = s.blocks + 1 }
 abbrev pub with_flow : Place → Place → Constraints → Constraints
 with_flow from to = with_rules (flows from to)
 
-abbrev pub with_input : Label → Place → Place → ℕ → HostId → Constraints → Constraints
-with_input host pc x offset h s = with_checks (input_checks host pc x offset h) (with_rules (input_rules host pc x) s)
+abbrev pub with_input : Label → Place → Place → ℕ → Constraints → Constraints
+with_input host pc x offset s = with_checks (input_checks host pc x offset) (with_rules (input_rules host pc x) s)
 
 abbrev pub with_declassified : TruthTable → Place → Place → Place → Constraints → Constraints
 with_declassified to pc x y = with_rules (declassify_rules to pc x y)
@@ -156,8 +154,8 @@ with_declassified to pc x y = with_rules (declassify_rules to pc x y)
 abbrev pub with_endorsed : TruthTable → Place → Place → Place → ℕ → Constraints → Constraints
 with_endorsed to pc x y offset s = with_checks (endorse_checks to x offset) (with_rules (endorse_rules to pc x y) s)
 
-abbrev pub with_output : Label → Place → Place → ℕ → HostId → Constraints → Constraints
-with_output host pc y offset h s = with_checks (output_checks host pc y offset h) (with_rules (output_rules host pc y) s)
+abbrev pub with_output : Label → Place → Place → ℕ → Constraints → Constraints
+with_output host pc y offset s = with_checks (output_checks host pc y offset) (with_rules (output_rules host pc y) s)
 
 abbrev pub with_label : Label → Place → ℕ → Constraints → Constraints
 with_label written x offset s = with_checks (written_checks written x offset) (with_rules (written_rules written x) s)
@@ -200,7 +198,7 @@ stmt_step (Stmt-F.NewVar v y) p pc s = with_written p v (with_stored pc v y s)
 stmt_step (Stmt-F.NewArray v size) p pc s = with_written p v (with_flow pc (Slot v) s)
 stmt_step (Stmt-F.Store v y) p pc s = with_stored pc v y s
 stmt_step (Stmt-F.Put v i y) p pc s = with_put pc v i y s
-stmt_step (Stmt-F.Output y h offset) p pc s = with_output (host_label p h) pc (Slot y) offset h s
+stmt_step (Stmt-F.Output y h offset) p pc s = with_output (host_label p h) pc (Slot y) offset s
 stmt_step (Stmt-F.If y then_block else_block offset) p pc s =
     in_order else_block p (Block s.blocks) (in_order then_block p (Block s.blocks) (with_branch (Slot y) pc s))
 stmt_step (Stmt-F.For count body) p pc s = in_order body p pc s

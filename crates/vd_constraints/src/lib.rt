@@ -1,4 +1,4 @@
-//! The flow rules of a let-normal program: which part of which label has to act for what.
+//! The flow rules of a let-normal program: which part of which label has to act for what, and beside them what asks for each check.
 #![tactic(auto)]
 
 mod labels;
@@ -9,5 +9,5 @@ mod system;
 
 pub use labels::Labels;
 pub use origin::Origin;
-pub use rules::constraints;
+pub use rules::{Collected, constraints};
 pub use system::{Bound, Check, Lower, Part, Place, System};

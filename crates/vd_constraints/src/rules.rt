@@ -1,15 +1,17 @@
 //! The walk over a let-normal program that collects its flow rules.
 
-ghost use Rattle.std.specs.Prelude.{◌≡◌, ◌^◌, ◌<◌, ◌≤◌, length, IsTrue, IfOk, IfSome, OnOk};
+ghost use Rattle.std.specs.Prelude.{◌≡◌, ◌^◌, ◌<◌, ◌≤◌, ◌++◌, length, IsTrue, IfOk, IfSome, OnOk};
 ghost use Rattle.std.specs.List.{list_all};
 ghost use Rattle.vd_base.specs.Limits.{most_principals};
 ghost use Rattle.vd_constraints.specs.Extends.{Extends};
+ghost use Rattle.vd_constraints.specs.Origins.{body_origins, origins_of, stmt_origins};
 ghost use Rattle.vd_constraints.specs.Rules.{host_label as label_of_host, label as label_over, written_at as label_written_at, offset_of, with_body, with_operands, with_put, with_right, with_stmt, with_stored, with_written, system_of};
 ghost use Rattle.vd_constraints.specs.Scoped.{HasNamesOf, IsScoped, is_below, slots_below, block_below};
 ghost use Rattle.vd_core.specs.declared.normal.Stmt.TheVariants as statement;
 ghost use Rattle.vd_constraints.specs.declared.system.Place.TheVariants as place;
 ghost use Rattle.vd_constraints.specs.Systems.{AreOfStep, IsLabelOver, IsPlaceOf, IsSmall};
 
+use crate::origin::{Origin, add_right_origins, add_slot_origins};
 use crate::system::{Place, System};
 use std::alloc::{AllocError, Global};
 use vd_base::{HostId, SlotId};
@@ -17,19 +19,29 @@ use vd_base_lists::Items;
 use vd_core::{NormalForm, Program, Right, Stmt, Written};
 use vd_formula::{Formula, Label};
 
-/// The rules and checks of a program, in program order. It fails only where memory runs out.
-pub fn constraints(alloc: Global, program: &Program) -> Result<System, AllocError>
-    ensures { IfOk result (λ system. system ≡ system_of program.now) }
+/// The system of a program, and beside it what asks for each of its checks, in their order.
+#[derive(Drop)]
+pub struct Collected {
+    pub system: System,
+    pub origins: Items<Origin>,
+}
+
+/// The rules and checks of a program, in program order, and what asks for each check. It fails only where memory runs out.
+pub fn constraints(alloc: Global, program: &Program) -> Result<Collected, AllocError>
+    ensures system { IfOk result (λ collected. collected.system ≡ system_of program.now) }
+    ensures origins { IfOk result (λ collected. collected.origins ≡ origins_of program.now) }
+    ensures as_many { IfOk result (λ collected. length collected.origins ≡ length collected.system.checks) }
 {
     constraints_of(alloc, program.form())
 }
 
-/// The rules and checks of a let-normal form, in program order.
-fn constraints_of(alloc: Global, form: &NormalForm) -> Result<System, AllocError>
+/// The rules and checks of a let-normal form, in program order, and what asks for each check.
+fn constraints_of(alloc: Global, form: &NormalForm) -> Result<Collected, AllocError>
     requires scoped { IsScoped form.now }
     requires slots { length form.now.slots < 2 ^ 32 }
     requires small { IsSmall (system_of form.now) }
-    ensures { IfOk result (λ system. system ≡ system_of form.now) }
+    ensures system { IfOk result (λ collected. collected.system ≡ system_of form.now) }
+    ensures origins { IfOk result (λ collected. collected.origins ≡ origins_of form.now) }
 {
     let mut system = System::new(
         form.principals.clone()?,
@@ -38,14 +50,22 @@ fn constraints_of(alloc: Global, form: &NormalForm) -> Result<System, AllocError
         Items::new(alloc),
         Items::new(alloc),
     );
-    add_body(&mut system, form, Place::Block(0), form.body.as_slice())?;
-    Ok(system)
+    let mut origins = Items::new(alloc);
+    add_body(
+        &mut system,
+        &mut origins,
+        form,
+        Place::Block(0),
+        form.body.as_slice(),
+    )?;
+    Ok(Collected { system, origins })
 }
 
-/// Adds what statements ask, in a block whose label is at `pc`.
+/// Adds what statements ask, in a block whose label is at `pc`, and what asks for their checks.
 #[cycle(walk)]
 fn add_body(
     system: &mut System,
+    origins: &mut Items<Origin>,
     program: &NormalForm,
     pc: Place,
     body: &[Stmt],
@@ -55,18 +75,20 @@ fn add_body(
     requires slots { IsTrue (block_below system.old.slots body.now) }
     requires small { IsSmall (with_body body.now program.now pc system.old) }
     ensures added { OnOk result (system.new ≡ with_body body.now program.now pc system.old) }
+    ensures origins { OnOk result (origins.new ≡ origins.old ++ body_origins program.now body.now) }
     ensures extends { OnOk result (Extends system.old system.new) }
 {
     for stmt in body {
-        add_stmt(system, program, pc, stmt)?;
+        add_stmt(system, origins, program, pc, stmt)?;
     }
     Ok(())
 }
 
-/// Adds what a statement asks, in a block whose label is at `pc`.
+/// Adds what a statement asks, in a block whose label is at `pc`, and what asks for its checks.
 #[cycle(walk)]
 fn add_stmt(
     system: &mut System,
+    origins: &mut Items<Origin>,
     program: &NormalForm,
     pc: Place,
     stmt: &Stmt,
@@ -76,33 +98,39 @@ fn add_stmt(
     requires slots { IsTrue (slots_below system.old.slots stmt.now) }
     requires small { IsSmall (with_stmt stmt.now program.now pc system.old) }
     ensures added { OnOk result (system.new ≡ with_stmt stmt.now program.now pc system.old) }
+    ensures origins { OnOk result (origins.new ≡ origins.old ++ stmt_origins program.now stmt.now) }
     ensures extends { OnOk result (Extends system.old system.new) }
 {
     match stmt {
         Stmt::Let(slot, right) => {
             add_right(system, program, pc, *slot, right)?;
-            add_label(system, program, *slot)
+            add_label(system, program, *slot)?;
+            add_right_origins(origins, right)?;
+            add_slot_origins(origins, program, *slot)
         }
         Stmt::NewVar(variable, value) => {
             add_stored(system, pc, *variable, *value)?;
-            add_label(system, program, *variable)
+            add_label(system, program, *variable)?;
+            add_slot_origins(origins, program, *variable)
         }
         Stmt::NewArray(array, _) => {
             system.add_flow(pc, Place::Slot(*array))?;
-            add_label(system, program, *array)
+            add_label(system, program, *array)?;
+            add_slot_origins(origins, program, *array)
         }
         Stmt::Store(variable, value) => add_stored(system, pc, *variable, *value),
         Stmt::Put(array, index, value) => add_put(system, pc, *array, *index, *value),
         Stmt::Output(slot, host, offset) => {
             let label = host_label(program, *host);
-            system.add_output(label, pc, Place::Slot(*slot), *offset, *host)
+            system.add_output(label, pc, Place::Slot(*slot), *offset)?;
+            origins.extend_from_slice(&[Origin::Output(*host), Origin::Told(*host)])
         }
         Stmt::If(guard, then_block, else_block, _) => {
             let branch = system.add_branch(Place::Slot(*guard), pc)?;
-            add_body(system, program, branch, then_block.as_slice())?;
-            add_body(system, program, branch, else_block.as_slice())
+            add_body(system, origins, program, branch, then_block.as_slice())?;
+            add_body(system, origins, program, branch, else_block.as_slice())
         }
-        Stmt::For(_, body) => add_body(system, program, pc, body.as_slice()),
+        Stmt::For(_, body) => add_body(system, origins, program, pc, body.as_slice()),
     }
 }
 
@@ -133,7 +161,7 @@ fn add_right(
         }
         Right::Input(host) => {
             let label = host_label(program, *host);
-            system.add_input(label, pc, x, offset(program, slot), *host)
+            system.add_input(label, pc, x, offset(program, slot))
         }
         Right::Declassify(value, form) => {
             let to = Formula::over(form, &program.principals);

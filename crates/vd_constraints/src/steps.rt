@@ -5,10 +5,8 @@ ghost use Rattle.vd_constraints.specs.Rules.{with_branch, with_declassified, wit
 ghost use Rattle.vd_constraints.specs.Systems.{AreOfStep, IsFormulaOf, IsLabelOf, IsPlaceOf, IsSmall};
 ghost use Rattle.vd_constraints.specs.declared.system.Place.TheVariants as place;
 
-use crate::origin::Origin;
 use crate::system::{Bound, Check, Lower, Part, Place, System};
 use std::alloc::AllocError;
-use vd_base::HostId;
 use vd_formula::{Formula, Label};
 
 impl System {
@@ -46,21 +44,20 @@ impl System {
         pc: Place,
         x: Place,
         offset: u32,
-        from: HostId,
     ) -> Result<(), AllocError>
         requires host { IsLabelOf self.old host }
         requires pc { IsPlaceOf self.old pc }
         requires x { IsPlaceOf self.old x }
-        requires small { IsSmall (with_input host pc x offset from self.old) }
-        ensures { OnOk result (self.new ≡ with_input host pc x offset from self.old) }
+        requires small { IsSmall (with_input host pc x offset self.old) }
+        ensures { OnOk result (self.new ≡ with_input host pc x offset self.old) }
     {
         self.add_rules(&[
             Lower::new(Part::conf(x), Bound::Constant(host.conf)),
             Lower::new(Part::integ(pc), Bound::Constant(host.integ)),
         ])?;
         self.add_checks(&[
-            Check::new(host.integ, Part::integ(x), offset, Origin::Input(from)),
-            Check::new(host.conf, Part::conf(pc), offset, Origin::Asked(from)),
+            Check::new(host.integ, Part::integ(x), offset),
+            Check::new(host.conf, Part::conf(pc), offset),
         ])
     }
 
@@ -107,7 +104,7 @@ impl System {
             Lower::new(Part::conf(x), Bound::Same(Part::conf(pc))),
             Lower::new(Part::integ(pc), Bound::Same(Part::integ(x))),
         ])?;
-        self.add_checks(&[Check::new(to, Part::integ(x), offset, Origin::Endorse)])
+        self.add_checks(&[Check::new(to, Part::integ(x), offset)])
     }
 
     /// A host with this label is told what is at `y`.
@@ -117,21 +114,20 @@ impl System {
         pc: Place,
         y: Place,
         offset: u32,
-        to: HostId,
     ) -> Result<(), AllocError>
         requires host { IsLabelOf self.old host }
         requires pc { IsPlaceOf self.old pc }
         requires y { IsPlaceOf self.old y }
-        requires small { IsSmall (with_output host pc y offset to self.old) }
-        ensures { OnOk result (self.new ≡ with_output host pc y offset to self.old) }
+        requires small { IsSmall (with_output host pc y offset self.old) }
+        ensures { OnOk result (self.new ≡ with_output host pc y offset self.old) }
     {
         self.add_rules(&[
             Lower::new(Part::integ(y), Bound::Constant(host.integ)),
             Lower::new(Part::integ(pc), Bound::Constant(host.integ)),
         ])?;
         self.add_checks(&[
-            Check::new(host.conf, Part::conf(y), offset, Origin::Output(to)),
-            Check::new(host.conf, Part::conf(pc), offset, Origin::Told(to)),
+            Check::new(host.conf, Part::conf(y), offset),
+            Check::new(host.conf, Part::conf(pc), offset),
         ])
     }
 
@@ -152,8 +148,8 @@ impl System {
             Lower::new(Part::integ(x), Bound::Constant(written.integ)),
         ])?;
         self.add_checks(&[
-            Check::new(written.conf, Part::conf(x), offset, Origin::Readers),
-            Check::new(written.integ, Part::integ(x), offset, Origin::Answerers),
+            Check::new(written.conf, Part::conf(x), offset),
+            Check::new(written.integ, Part::integ(x), offset),
         ])
     }
 }

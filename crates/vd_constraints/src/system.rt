@@ -4,7 +4,6 @@ ghost use Rattle.std.specs.Prelude.{◌≡◌, ◌+◌, ◌^◌, ◌<◌, All, O
 ghost use Rattle.vd_constraints.specs.Systems.{IsSystem, IsRuleOf, IsCheckOf};
 ghost use Rattle.vd_constraints.specs.Rules.{conf, integ, rule, check, with_rules, with_checks, with_block};
 
-use crate::origin::Origin;
 use std::alloc::AllocError;
 use std::marker::Model;
 use vd_base::{Names, SlotId};
@@ -69,25 +68,23 @@ impl Lower {
     }
 }
 
-/// The constant acts for the part. `offset` is that of its statement in the source, and `origin` what of it asks for the check.
+/// The constant acts for the part. `offset` is that of its statement in the source.
 #[derive(Clone, Copy, PartialEq, Eq, Debug)]
 pub struct Check {
     pub constant: Formula,
     pub part: Part,
     pub offset: u32,
-    pub origin: Origin,
 }
 
 impl Check {
-    /// The check that a constant acts for a part, of the statement at an offset, which asks for it so.
-    pub fn new(constant: Formula, part: Part, offset: u32, origin: Origin) -> Check
-        ensures { result ≡ check constant part offset origin }
+    /// The check that a constant acts for a part, of the statement at an offset.
+    pub fn new(constant: Formula, part: Part, offset: u32) -> Check
+        ensures { result ≡ check constant part offset }
     {
         Check {
             constant,
             part,
             offset,
-            origin,
         }
     }
 }

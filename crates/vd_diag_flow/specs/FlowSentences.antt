@@ -60,5 +60,5 @@ sentence_of hosts origin.Readers own asked = readers_sentence own asked
 sentence_of hosts origin.Answerers own asked = answerers_sentence own asked
 
 -- of formulas over these principals
-abbrev pub flow_sentence : (principals hosts : List (List ℕ)) → Check → (asked : TruthTable) → List ℕ
-flow_sentence principals hosts check asked = sentence_of hosts check.origin (formula_text principals check.constant) (formula_text principals asked)
+abbrev pub flow_sentence : (principals hosts : List (List ℕ)) → Check → Origin → (asked : TruthTable) → List ℕ
+flow_sentence principals hosts check by asked = sentence_of hosts by (formula_text principals check.constant) (formula_text principals asked)

@@ -198,11 +198,12 @@ pub(crate) fn flow_sentence(
     principals: &Names,
     hosts: &Names,
     check: &Check,
+    origin: Origin,
     asked: &Formula,
 ) -> Result<Bytes, AllocError>
-    ensures { IfOk result (λ text. text ≡ sentences.flow_sentence principals.now hosts.now check.now asked.now) }
+    ensures { IfOk result (λ text. text ≡ sentences.flow_sentence principals.now hosts.now check.now origin asked.now) }
 {
     let own = formula_text(alloc, principals, &check.constant)?;
     let asked = formula_text(alloc, principals, asked)?;
-    sentence_of(alloc, hosts, check.origin, own.as_slice(), asked.as_slice())
+    sentence_of(alloc, hosts, origin, own.as_slice(), asked.as_slice())
 }

@@ -3,6 +3,7 @@ use Rattle.std.specs.Prelude.{◌≡◌, ℕ, List, Option, Some, None}
 use Rattle.vd_diag_flow.specs.Flow.{flow_remark}
 use Rattle.vd_report.specs.declared.fault.ReadFault.{ReadFault}
 use Rattle.vd_report.specs.declared.fault.ReadFault.TheVariants as read_fault
+use Rattle.vd_cmd_plan.specs.declared.status.FlowFault.{FlowFault}
 use Rattle.vd_cmd_plan.specs.declared.status.Status.{Status}
 use Rattle.vd_cmd_plan.specs.declared.status.Status.TheVariants as status
 use Rattle.vd_diag.specs.Files.{host_sentence, inputs_sentence, name_at, schedule_sentence}
@@ -19,12 +20,17 @@ IsTextRemark bytes has (read_fault.Text offset) remark = remark ≡ at offset ha
 IsTextRemark bytes has (read_fault.UnknownHost offset) remark = remark ≡ at offset (host_sentence (name_at bytes offset))
 IsTextRemark bytes has read_fault.Memory remark = ⊥
 
+-- ---- of a flow that is not allowed
+
+abbrev pub remark_of_flow : FlowFault → Remark
+remark_of_flow fault = flow_remark fault.principals fault.hosts fault.check fault.origin fault.asked
+
 -- ---- of any status
 
 abbrev pub IsRemarkOn : List ℕ → Status → Option Remark → Type 0
 IsRemarkOn bytes (status.Syntax fault) remark = SaysOfSyntax bytes fault remark
 IsRemarkOn bytes (status.Names fault) remark = SaysOne (IsRuleRemark bytes) fault remark
-IsRemarkOn bytes (status.Flow fault) remark = remark ≡ Some (flow_remark fault.principals fault.hosts fault.check fault.asked)
+IsRemarkOn bytes (status.Flow fault) remark = remark ≡ Some (remark_of_flow fault)
 IsRemarkOn bytes (status.NoAssignment form) remark = IsAssignmentRemark form remark
 IsRemarkOn bytes (status.Spent budget form) remark = IsSearchRemark budget form remark
 IsRemarkOn bytes (status.InputText fault) remark = SaysOne (IsTextRemark bytes inputs_sentence) fault remark

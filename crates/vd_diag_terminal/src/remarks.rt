@@ -2,7 +2,6 @@
 
 ghost use Rattle.std.specs.Prelude.{◌≡◌, IfOk, Some};
 ghost use Rattle.vd_diag.specs.Remarks.{at as remark_at};
-ghost use Rattle.vd_diag_flow.specs.Flow.{flow_remark as remark_of_flow};
 ghost use Rattle.vd_diag_source.specs.Rules.{IsRuleRemark};
 ghost use Rattle.vd_diag_terminal.specs.Programs.{SaysOne};
 ghost use Rattle.vd_diag_terminal.specs.Remarks as remarks;
@@ -63,13 +62,14 @@ fn remark_on_rule(
 
 /// The remark on a flow that is not allowed.
 fn remark_on_flow(alloc: Global, fault: &FlowFault) -> Result<Option<Remark>, TellFault>
-    ensures { IfOk result (λ remark. remark ≡ Some (remark_of_flow fault.now.principals fault.now.hosts fault.now.check fault.now.asked)) }
+    ensures { IfOk result (λ remark. remark ≡ Some (remarks.remark_of_flow fault.now)) }
 {
     let remark = flow_remark(
         alloc,
         &fault.principals,
         &fault.hosts,
         &fault.check,
+        fault.origin,
         &fault.asked,
     )?;
     Ok(Some(remark))

@@ -347,7 +347,7 @@ module _ (p : NormalForm) (l : Labels) (T : TruthTable → Bool) (vouched freed 
     output_obeys : (y : SlotId) (host : HostId) (offset : ℕ) → Obeys (stmt_step (Stmt-F.Output y host offset)) (seeing_step (Stmt-F.Output y host offset)) (makes_step trusts (Stmt-F.Output y host offset)) (flow_step knowledge (Stmt-F.Output y host offset)) (stmt_below slots (Stmt-F.Output y host offset))
     output_obeys y host offset pc c low met =
         let ruled = with_rules (output_rules (host_label p host) pc (Slot y)) c in
-        let a = drop_checks (output_checks (host_label p host) pc (Slot y) offset host) ruled met in
+        let a = drop_checks (output_checks (host_label p host) pc (Slot y) offset) ruled met in
         let b = drop_rules (output_rules (host_label p host) pc (Slot y)) c a.0 in
         let rules = each (HoldsRule l) (output_rules (host_label p host) pc (Slot y)) b.1 in
         record {

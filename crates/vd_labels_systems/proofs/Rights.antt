@@ -65,7 +65,7 @@ module _ (p : NormalForm) (few : length p.principals ≤ most_principals) where
       right_checks_fit (Apply o ys) below = All-nil (IsCheckIn (length p.principals) (length p.slots) blocks)
       right_checks_fit (Get v i) below = All-nil (IsCheckIn (length p.principals) (length p.slots) blocks)
       right_checks_fit (Input h) below =
-          fit_input_checks (length p.principals) (length p.slots) blocks (host_label p h) pc (Slot x) (host_over p few h) is_pc is_x (offset_of p x) h
+          fit_input_checks (length p.principals) (length p.slots) blocks (host_label p h) pc (Slot x) (host_over p few h) is_pc is_x (offset_of p x)
       right_checks_fit (Declassify y to) below = All-nil (IsCheckIn (length p.principals) (length p.slots) blocks)
       right_checks_fit (Endorse y to) below =
           fit_endorse_checks (length p.principals) (length p.slots) blocks (formula p to) pc (Slot x) (Slot y) (formula_over p few to) is_pc is_x (low (length p.slots) y below) (offset_of p x)

@@ -91,9 +91,9 @@ module _ (p : NormalForm) (few : length p.principals ≤ most_principals) where
       (fit_flows (length p.principals) (length p.slots) s.blocks pc (Slot v) is_pc is_v))
   step (Stmt-F.Output y h offset) named pc s fits is_pc =
       let is_y = low (length p.slots) y named in
-      both_fit p (output_rules (host_label p h) pc (Slot y)) (output_checks (host_label p h) pc (Slot y) offset h) s fits
+      both_fit p (output_rules (host_label p h) pc (Slot y)) (output_checks (host_label p h) pc (Slot y) offset) s fits
       (fit_output_rules (length p.principals) (length p.slots) s.blocks (host_label p h) pc (Slot y) (host_over p few h) is_pc is_y)
-      (fit_output_checks (length p.principals) (length p.slots) s.blocks (host_label p h) pc (Slot y) (host_over p few h) is_pc is_y offset h)
+      (fit_output_checks (length p.principals) (length p.slots) s.blocks (host_label p h) pc (Slot y) (host_over p few h) is_pc is_y offset)
   step (Stmt-F.If y a b offset) named pc s fits is_pc =
       let parts = and_parts (is_below (length p.slots) y && block_below (length p.slots) (statements a)) (block_below (length p.slots) (statements b)) named in
       let front = and_parts (is_below (length p.slots) y) (block_below (length p.slots) (statements a)) parts.0 in

@@ -360,9 +360,9 @@ module _ (p : NormalForm) (l : Labels) (h : HostId) (test : ℕ → ℕ → Bool
     output_obeys : (y : SlotId) (host : HostId) (offset : ℕ) → Obeys (stmt_step (Stmt-F.Output y host offset)) (seeing_step (Stmt-F.Output y host offset)) (makes_step reads (Stmt-F.Output y host offset)) (flow_step knowledge (Stmt-F.Output y host offset)) (stmt_below slots (Stmt-F.Output y host offset))
     output_obeys y host offset pc c low met =
         let ruled = with_rules (output_rules (host_label p host) pc (Slot y)) c in
-        let a = drop_checks (output_checks (host_label p host) pc (Slot y) offset host) ruled met in
+        let a = drop_checks (output_checks (host_label p host) pc (Slot y) offset) ruled met in
         let b = drop_rules (output_rules (host_label p host) pc (Slot y)) c a.0 in
-        let checks = each (HoldsCheck l) (output_checks (host_label p host) pc (Slot y) offset host) a.1 in
+        let checks = each (HoldsCheck l) (output_checks (host_label p host) pc (Slot y) offset) a.1 in
         let own : nat_eq host.0 h.0 ≡ true → host_label p host ≡ host_label p h = λ is. ap (λ (n : ℕ). host_label p (record { 0 = n })) (eqb-true host.0 h.0 is) in
         record {
           before = b.0;

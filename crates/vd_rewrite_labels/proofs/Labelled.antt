@@ -329,7 +329,7 @@ module _ (p : NormalForm) (l : Labels) where
         let pc = Block block in
         let t = fits last final h in
         let rs = output_rules (host_label p host) pc (Slot y) in
-        let cs = output_checks (host_label p host) pc (Slot y) offset host in
+        let cs = output_checks (host_label p host) pc (Slot y) offset in
         let done = more_checks final cs (with_rules rs c) (more_rules final rs c st.0 (together (HoldsRule final) rs (t.integ, (t.block, tt)))) (together (HoldsCheck final) cs (t.conf, (t.asked, tt))) in
         subst (λ (w : Step). Stands final (w q pc c) m'.blocks) (sym (asks_output y host offset)) (done, st.1 ∙ sym same)
 

@@ -107,7 +107,7 @@ module _ (hides : SlotId → Bool) (p : NormalForm) (l : Labels) (slots_over : (
   old_output : (y : SlotId) (h : HostId) (offset : ℕ) (pc : Place) (c : Constraints) → Old (stmt_step (Stmt-F.Output y h offset) p pc c) → Old c × OutputFits (host_label p h) (label_at l pc) (own y.0)
   old_output y h offset pc c o =
       let rs = output_rules (host_label p h) pc (Slot y) in
-      let cs = output_checks (host_label p h) pc (Slot y) offset h in
+      let cs = output_checks (host_label p h) pc (Slot y) offset in
       let a = old_checks cs (with_rules rs c) o in
       let b = old_rules rs c a.0 in
       let r = each (HoldsRule l) rs b.1 in

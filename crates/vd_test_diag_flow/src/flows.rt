@@ -26,6 +26,7 @@ fn told(alloc: Global, source: &str, fault: &FlowFault) -> anyhow::Result<Bytes>
         &fault.principals,
         &fault.hosts,
         &fault.check,
+        fault.origin,
         &fault.asked,
     )?;
     Ok(tell(alloc, false, "less.via", source.as_bytes(), &remark)?)

@@ -2,7 +2,7 @@
 
 use std::alloc::Global;
 use std::test::Fail;
-use vd_constraints::{Labels, System, constraints};
+use vd_constraints::{Collected, Labels, System, constraints};
 use vd_core::Program;
 use vd_elaborate::elaborate;
 use vd_parser::parse;
@@ -28,7 +28,8 @@ pub(crate) fn program_of(alloc: Global, text: &[u8]) -> Result<Program, Fail> {
 
 /// The flow rules of a program.
 pub(crate) fn system_of(alloc: Global, program: &Program) -> Result<System, Fail> {
-    Ok(constraints(alloc, program)?)
+    let Collected { system, .. } = constraints(alloc, program)?;
+    Ok(system)
 }
 
 /// The least labels of a system.
