@@ -28,12 +28,12 @@ pub fn least_labels(alloc: Global, program: &Program) -> Result<Labels, Status>
 {
     let collected = constraints(alloc, program)?;
     let checks = collected.system.checks();
+    let origins = collected.origins.as_slice();
     let solved = solve(alloc, &collected.system)?;
     match solved {
         Ok(labels) => Ok(labels),
         Err(number) => {
             let solution = solve_rules(alloc, &collected.system)?;
-            let origins = collected.origins.as_slice();
             let fault = flow_fault(alloc, program.form(), checks, origins, &solution, number)?;
             Err(Status::Flow(fault))
         }
