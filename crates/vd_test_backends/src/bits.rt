@@ -1,11 +1,11 @@
 //! Words that two hosts share by exclusive or.
 
-ghost use Rattle.std.specs.Prelude.{◌≡◌, ◌<◌, IsTrue, IfOk, OnOk, length};
-ghost use Rattle.vd_base.specs.Arity.{arity};
+ghost use Rattle.std.specs.Prelude.{◌≡◌, ◌<◌, IfOk, OnOk, length};
 ghost use Rattle.vd_base.specs.Holders.{holders};
 ghost use Rattle.vd_duet.specs.Builder.{HasRoom, TakesAtMost};
 ghost use Rattle.vd_duet.specs.Laws.{AreKnown};
 ghost use Rattle.vd_circuit.specs.CircuitCalls.{circuit_calls};
+ghost use Rattle.vd_test_backends.specs.Serving.{ServesOfTwo};
 
 use crate::code::print_code;
 use std::alloc::{AllocError, Global};
@@ -62,7 +62,7 @@ fn shown<B: Backend>(pair: &B, op: Op, to: &mut Duet) -> Result<Clear, AllocErro
     requires known { AreKnown (holders (B.calls pair.now).proto) to.old.next }
     requires hosts { length to.old.next ≡ 2 }
     requires room { HasRoom 32768 to.old.next }
-    requires serves { IsTrue ((B.calls pair.now).serves op) × (arity op ≡ 2) }
+    requires serves { ServesOfTwo (B.calls pair.now) op }
 {
     let operands = operands(pair, to)?;
     let result = pair.apply(op, &operands, to)?;
