@@ -1,4 +1,5 @@
 mod Positions
+mod Assigned
 mod Kept
 mod Lows
 mod Smalls

@@ -1,10 +1,10 @@
 -- Lists of protocols, by the places of their protocols in the list of all.
-use Rattle.std.specs.Prelude.{◌≡◌, ℕ, ◌==◌, Bool, ◌&&◌, List, map, length}
+use Rattle.std.specs.Prelude.{◌≡◌, ℕ, List, map}
 use Rattle.std.specs.List.{position_or_len}
 use Rattle.vd_base.specs.declared.protocols.Proto.{Proto}
 use Rattle.vd_base.specs.Holders.{same_protocol}
 use Rattle.vd_space.specs.declared.problem.Problem.{Problem}
-use Rattle.vd_space.specs.Validity.{protocols, is_valid}
+use Rattle.vd_space.specs.Validity.{protocols}
 use Rattle.vd_space.specs.WellFormed.{IsWellFormed}
 
 -- the place of a protocol, and the length of the list where it is not there
@@ -16,10 +16,6 @@ places_of list prefix = map (place_of list) prefix
 
 abbrev pub places_in : Problem → List Proto → List ℕ
 places_in problem prefix = places_of (protocols problem) prefix
-
--- a list with a protocol for each slot that is valid
-abbrev pub is_valid_list : Problem → List Proto → Bool
-is_valid_list problem list = (length list == length problem.slots) && is_valid problem (places_in problem list)
 
 -- what a space keeps
 pub record IsSpace (problem : Problem) (list : List Proto) : Type 0 where

@@ -10,7 +10,8 @@ ghost use Rattle.vd_space.specs.Reading.{problem_of};
 ghost use Rattle.vd_space.specs.Usual.{usual};
 ghost use Rattle.vd_space.specs.Validity.{is_valid};
 ghost use Rattle.vd_space.specs.WellFormed.{AreProtocols, IsWellFormed};
-ghost use Rattle.vd_space_api.specs.Places.{is_valid_list, places_in};
+ghost use Rattle.vd_space_api.specs.Places.{places_in};
+ghost use Rattle.vd_space_optimum.specs.Cheapest.{IsAssignment};
 
 use crate::places::{bound_of_prefix, high_of_prefix, is_valid_prefix};
 use std::alloc::{AllocError, Global};
@@ -97,9 +98,11 @@ impl Space {
 
     /// Whether a list has a protocol for each slot and is valid.
     pub fn valid(&self, list: &[Proto]) -> bool
-        ensures { result ≡ is_valid_list self.now list.now }
+        ensures sound { IsTrue result → IsAssignment self.now list.now }
+        ensures complete { IsAssignment self.now list.now → IsTrue result }
     {
-        list.len() == self.slots() as usize && self.prefix_valid(list)
+        let slots = self.problem().slots.as_slice();
+        list.len() == slots.len() && self.prefix_valid(list)
     }
 
     /// The bound of a valid prefix: the sum of the least that each term can cost over the candidates of the slots behind it.
@@ -112,7 +115,7 @@ impl Space {
 
     /// The cost of a valid list.
     pub fn cost(&self, list: &[Proto]) -> u64
-        requires { IsTrue (is_valid_list self.now list.now) }
+        requires { IsAssignment self.now list.now }
         ensures { pos result ≡ cost self.now (places_in self.now list.now) }
     {
         bound_of_prefix(self.problem(), self.list(), list)
