@@ -1,6 +1,6 @@
 -- What a search comes to, whatever functions pick the outcomes.
-use Rattle.std.proofs.Common.{◌≡◌, ℕ, true, Option, Some, None, List, Ok, Err, refl, sym, ap, ◌∙◌, subst}
-use Rattle.std.specs.Prelude.{is_ok, nat_le, nat_lt, option_map}
+use Rattle.std.proofs.Common.{◌≡◌, ℕ, true, Option, Some, None, List, Ok, Err, refl, sym, ap, ◌∙◌, subst, pos}
+use Rattle.std.specs.Prelude.{IfSome, is_ok, nat_le, nat_lt, option_map}
 use Rattle.std.proofs.lemmas.Bool.{and_from, le-leb, lt-ltb, cond-true}
 use Rattle.vd_core.specs.declared.normal.NormalForm.{NormalForm}
 use Rattle.vd_constraints.specs.Rules.{system_of}
@@ -11,19 +11,20 @@ use Rattle.vd_search_certificate.specs.declared.certificate.Certificate.{Certifi
 use Rattle.vd_search_certificate.specs.Texts.{text_of}
 use Rattle.vd_search_certificate.proofs.Front.{outcome_once}
 use Rattle.vd_space.specs.declared.problem.Problem.{Problem}
+use Rattle.vd_space.specs.Costs.{cost}
 use Rattle.vd_space.specs.Reading.{problem_of}
 use Rattle.vd_space.specs.Spaces.{IsProblem}
 use Rattle.vd_space.specs.Usual.{usual}
 use Rattle.vd_space_optimum.proofs.Front.{cheapest}
-use Rattle.vd_space_optimum.specs.Cheapest.{IsAssignment}
 use Rattle.vd_search_stages.specs.Choices.{ChoiceOutcomes, IsChosen, needed}
 use Rattle.vd_search_stages.specs.Confirming.{confirmed}
 use Rattle.vd_search_stages.specs.Selecting.{IsAccepted, IsOver}
 use Rattle.vd_search_stages.specs.Optimum.{IsOptimum, assigned}
 use Rattle.vd_search_stages.specs.declared.optimum.Assignment.{Assignment}
 use Rattle.vd_search_stages.specs.declared.optimum.Optimum.{Optimum}
+use Rattle.vd_search.specs.Answers.{nat_or_zero}
 use Rattle.vd_search.specs.declared.writing.SearchFault.TheVariants as search_fault
-use Rattle.vd_search_stages.proofs.Front.{spent_needs, chosen_once}
+use Rattle.vd_search_stages.proofs.Front.{chosen_once, optimal_at, spent_needs}
 use Rattle.vd_cmd_plan.specs.Labelled.{labelled_form}
 use Rattle.vd_cmd_plan.specs.Plans.{Executes}
 use Rattle.vd_cmd_plan.specs.declared.status.Status.TheVariants.{Memory, Spent}
@@ -73,16 +74,15 @@ module _ (program : NormalForm) (l : Labels) (budget : ℕ) where
 
   -- it is the choice for the program
   module _ (holds : IsProblem problem) (least : IsLeast (system_of program) l) where
-    of_choice : (choice : Option (List ℕ)) → IsChosen problem choice → (c : Certificate) → IsChoiceFor program (given program l (option_map (assigned problem) choice) c)
-    of_choice (Some list) chosen c =
-        let is = cheapest problem list holds chosen in
-        let selected : IsSelected program (assigned problem list) = record { labels = l; least = least; places = list; cheapest = is; is = refl } in
-        let valid : IsAssignment problem (assigned problem list).protocols = record { places = list; is_valid = is.is_valid; named = refl } in
-        record { same = refl; least = least; selected = selected; valid = valid }
-    of_choice None chosen c = record { same = refl; least = least; selected = tt; valid = tt }
+    of_choice : (choice : Option (List ℕ)) → IsChosen problem choice → IfSome choice (λ places. cost problem places ≡ pos (nat_or_zero (cost problem places))) → (c : Certificate) → IsChoiceFor program (given program l (option_map (assigned problem) choice) c)
+    of_choice (Some list) chosen costs c =
+        let optimal = optimal_at problem list (cheapest problem list holds chosen) costs in
+        let selected : IsSelected program (assigned problem list) = record { labels = l; least = least; optimal = optimal } in
+        record { same = refl; least = least; selected = selected; valid = optimal.cheapest.valid }
+    of_choice None chosen costs c = record { same = refl; least = least; selected = tt; valid = tt }
 
     pub found_is : (optimum : Optimum) → IsOptimum problem budget optimum → IsChoiceFor program (given program l optimum.assignment optimum.certificate)
-    found_is optimum is = subst (λ (o : Option Assignment). IsChoiceFor program (given program l o optimum.certificate)) (sym is.assignment) (of_choice is.choice is.chosen optimum.certificate)
+    found_is optimum is = subst (λ (o : Option Assignment). IsChoiceFor program (given program l o optimum.certificate)) (sym is.assignment) (of_choice is.choice is.chosen is.costs optimum.certificate)
 
   -- a search that gave up does so where its budget may not do
   pub spent : IsProblem problem → IsOver problem (usual problem) budget → Searches program l budget (Err (Spent budget (labelled_form program l)))

@@ -9,9 +9,9 @@ use Rattle.vd_constraints.specs.Satisfies.{IsLeast}
 use Rattle.vd_constraints.specs.declared.labels.Labels.{Labels}
 use Rattle.vd_search_certificate.specs.Texts.{text_of}
 use Rattle.vd_space.specs.Reading.{problem_of}
-use Rattle.vd_space_optimum.specs.Cheapest.{IsAssignment, IsCheapest}
+use Rattle.vd_space_optimum.specs.Cheapest.{IsAssignment}
 use Rattle.vd_search_stages.specs.Choices.{ChoiceOutcomes}
-use Rattle.vd_search_stages.specs.Optimum.{assigned, assignment_of}
+use Rattle.vd_search_stages.specs.Optimum.{IsOptimal, assignment_of}
 use Rattle.vd_search_stages.specs.declared.optimum.Assignment.{Assignment}
 use Rattle.vd_search.specs.declared.writing.SearchFault.{SearchFault}
 use Rattle.vd_search.specs.declared.writing.SearchFault.TheVariants as search_fault
@@ -30,9 +30,7 @@ use Rattle.vd_cmd_choice.specs.declared.choice.Choice.{Choice}
 pub record IsSelected (program : NormalForm) (a : Assignment) : Type 0 where
   pub labels : Labels
   pub least : IsLeast (system_of program) labels
-  pub places : List ℕ
-  pub cheapest : IsCheapest (problem_of program labels) places
-  pub is : a ≡ assigned (problem_of program labels) places
+  pub optimal : IsOptimal (problem_of program labels) a
 
 -- what is printed of it: a line for each slot, and the cost
 abbrev pub printed_at : NormalForm → Assignment → List ℕ

@@ -30,6 +30,7 @@ use Rattle.vd_search.specs.Answers.{nat_or_zero}
 use Rattle.vd_search_stages.specs.Choices.{ChoiceOutcomes, IsChosen, needed}
 use Rattle.vd_search_stages.specs.Confirming.{confirmed}
 use Rattle.vd_search_stages.specs.Optimum.{assigned, assignment_of}
+use Rattle.vd_search_stages.proofs.Front.{optimal_at}
 use Rattle.vd_search.specs.declared.writing.SearchFault.{SearchFault}
 use Rattle.vd_search.specs.declared.writing.SearchFault.TheVariants as search_fault
 use Rattle.vd_space.specs.declared.problem.Problem.{Problem}
@@ -211,8 +212,7 @@ module _ (name : List ℕ) (contents : Contents) (source : Source) (held : Holds
     program = program;
     is_run = is_run;
     assignment = assigned problem list;
-    selected = record { labels = labels; least = least; places = list; cheapest = best; is = refl };
-    costs = number_is list best;
+    selected = record { labels = labels; least = least; optimal = optimal_at problem list best (number_is list best) };
     lines = refl;
   }
 

@@ -1,5 +1,5 @@
 -- What `certify` prints.
-use Rattle.std.proofs.Common.{◌≡◌, ◌⊎◌, inl, inr, ℕ, List, [], Result, Ok, Err, refl, sym, ap, ◌∙◌, subst}
+use Rattle.std.proofs.Common.{◌≡◌, ◌⊎◌, inl, inr, ℕ, List, [], map, Result, Ok, Err, refl, sym, ap, ◌∙◌, subst}
 use Rattle.vd_base.specs.Limits.{most_certificate_bytes}
 use Rattle.vd_outside.specs.Files.{Contents}
 use Rattle.vd_core.specs.declared.normal.NormalForm.{NormalForm}
@@ -15,6 +15,7 @@ use Rattle.vd_search_certificate.specs.declared.certificate.Certificate.{Certifi
 use Rattle.vd_search_stages.specs.Confirming.{confirmed}
 use Rattle.vd_space.specs.declared.problem.Problem.{Problem}
 use Rattle.vd_space.specs.Reading.{problem_of}
+use Rattle.vd_space.specs.Validity.{protocol}
 use Rattle.vd_space.proofs.Front.{is_problem}
 use Rattle.vd_cmd_plan.specs.Plans.{Plan, answer_then, check_then, ended}
 use Rattle.vd_cmd_plan.specs.declared.answer.Answer.{Answer}
@@ -53,8 +54,16 @@ proved_as proved (Err fault) is = absurd (cc is)
 
 -- what the line of a yes says
 shown_line : (problem : Problem) (proved : Proved) (printed : List ℕ) → printed ≡ proved_text proved → Shown problem proved → IsLeastCost problem printed ⊎ HasNone problem printed
-shown_line problem (Least list number) printed line shown = inl (record { number = number; line = line; list = list; is_valid = shown.0; costs = shown.1; least = shown.2 })
-shown_line problem Empty printed line shown = inr (record { line = line; none = shown })
+shown_line problem (Least list number) printed line shown =
+    inl (record {
+      number = number;
+      line = line;
+      protocols = map (protocol problem) list;
+      valid = record { places = list; is_valid = shown.0; named = refl };
+      costs = shown.1;
+      least = λ others are. shown.2 are.places are.is_valid;
+    })
+shown_line problem Empty printed line shown = inr (record { line = line; none = λ protocols is. shown is.places is.is_valid })
 
 module _ (contents : Contents) (certificates : CertificateOutcomes) (name : List ℕ) where
   certificate_came : (rest : Certificate → Contents → Plan) → Ends contents (certificate_then certificates name rest)

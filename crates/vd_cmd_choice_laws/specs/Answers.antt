@@ -1,6 +1,7 @@
 -- What `labels`, `certify` and `choose` say where they end well, in the words of labels and costs.
 use Rattle.std.specs.Prelude.{◌≡◌, ◌⊎◌, ℕ, ◌<◌, Some, List, [], ◌++◌, length, codes, pos, ◌≤ℤ◌}
 use Rattle.std.specs.Fmt.{decimal}
+use Rattle.vd_base.specs.declared.protocols.Proto.{Proto}
 use Rattle.vd_outside.specs.Files.{Contents}
 use Rattle.vd_outside.specs.declared.stored.Stored.{Stored}
 use Rattle.vd_core.specs.declared.source.Source.{Source}
@@ -12,9 +13,8 @@ use Rattle.vd_constraints.specs.Rules.{system_of}
 use Rattle.vd_constraints.specs.Satisfies.{IsLeast}
 use Rattle.vd_constraints.specs.declared.labels.Labels.{Labels}
 use Rattle.vd_space.specs.declared.problem.Problem.{Problem}
-use Rattle.vd_space.specs.Costs.{cost}
 use Rattle.vd_space.specs.Reading.{problem_of}
-use Rattle.vd_space_optimum.specs.Cheapest.{IsValid}
+use Rattle.vd_space_optimum.specs.Cheapest.{IsAssignment, cost_of}
 use Rattle.vd_execution.specs.Joint.{code_of}
 use Rattle.vd_execution.specs.Text.{text}
 use Rattle.vd_projection.specs.Programs.{joint_of}
@@ -43,19 +43,19 @@ pub record TellsLabels (name : List ℕ) (contents : Contents) (printed : List �
 abbrev pub least_line : ℕ → List ℕ
 least_line number = codes "least " ++ (decimal number ++ codes "\n")
 
--- a valid list costs the number that is printed, and none costs less
+-- a valid assignment costs the number that is printed, and none costs less
 pub record IsLeastCost (problem : Problem) (printed : List ℕ) : Type 0 where
   pub number : ℕ
   pub line : printed ≡ least_line number
-  pub list : List ℕ
-  pub is_valid : IsValid problem list
-  pub costs : cost problem list ≡ pos number
-  pub least : (other : List ℕ) → IsValid problem other → pos number ≤ℤ cost problem other
+  pub protocols : List Proto
+  pub valid : IsAssignment problem protocols
+  pub costs : cost_of problem protocols valid ≡ pos number
+  pub least : (others : List Proto) (are : IsAssignment problem others) → pos number ≤ℤ cost_of problem others are
 
--- or no list is valid
+-- or no assignment is valid
 pub record HasNone (problem : Problem) (printed : List ℕ) : Type 0 where
   pub line : printed ≡ codes "empty\n"
-  pub none : (list : List ℕ) → IsValid problem list → ⊥
+  pub none : (protocols : List Proto) → IsAssignment problem protocols → ⊥
 
 -- The file is the text of a source that meets every rule, and what is printed is the least cost of the lists of protocols that are
 -- valid for the program that is run for it, under the least labels of that, or that there are none, whoever made the certificate.
@@ -79,7 +79,6 @@ pub record TellsAssignment (name : List ℕ) (contents : Contents) (printed : Li
   pub is_run : IsRunProgram source program
   pub assignment : Assignment
   pub selected : IsSelected program assignment
-  pub costs : cost (problem_of program selected.labels) selected.places ≡ pos assignment.cost
   pub lines : printed ≡ printed_at program assignment
 
 -- `certify` on these two files ends well and prints this cost, whatever functions pick outcomes

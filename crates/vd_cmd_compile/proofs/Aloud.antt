@@ -43,16 +43,16 @@ module _ (program : NormalForm) (a : Assignment) (made : IsWellMade program) (se
   problem = problem_of program selected.labels
 
   abbrev places : List ℕ
-  places = selected.places
+  places = selected.optimal.cheapest.valid.places
 
   -- the protocol of a slot is that at its place
   same_protocol : (x : ℕ) → protocol problem (slice_index places x) ≡ proto_in a.protocols x
-  same_protocol x = sym (proto_is problem a.protocols places (ap (λ (b : Assignment). b.protocols) selected.is) x)
+  same_protocol x = sym (proto_is problem a.protocols places selected.optimal.cheapest.valid.named x)
 
   pub covered : AreCovered program selected.labels a.protocols
   covered x low =
-      let valid = parts_of problem places selected.cheapest.is_valid.valid in
-      let whole : length places ≡ length program.slots = selected.cheapest.is_valid.whole ∙ as_many program selected.labels made in
+      let valid = parts_of problem places selected.optimal.cheapest.valid.is_valid.valid in
+      let whole : length places ≡ length program.slots = selected.optimal.cheapest.valid.is_valid.whole ∙ as_many program selected.labels made in
       let q = slice_index places x.0 in
       let there : slice_get places x.0 ≡ Some q = slice_get-get_or places x.0 0 (omega (arith, whole, low)) in
       let found = stand_at problem problem.slots places x.0 q valid.stands there in

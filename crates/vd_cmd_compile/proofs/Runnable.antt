@@ -16,13 +16,12 @@ use Rattle.vd_space_optimum.specs.Cheapest.{IsAssignment}
 
 -- the choice is valid under the labels that it is chosen under
 pub assignment_of : (program : NormalForm) (a : Assignment) → (is : IsSelected program a) → IsAssignment (problem_of program is.labels) a.protocols
-assignment_of program a is = record { places = is.places; is_valid = is.cheapest.is_valid; named = ap (λ (b : Assignment). b.protocols) is.is }
+assignment_of program a is = is.optimal.cheapest.valid
 
 pub runnable_of : (program : NormalForm) (a : Assignment) → IsSelected program a → (protocols : List Proto) → protocols ≡ a.protocols → IsRunnable program protocols
-runnable_of program a is protocols same = record {
-  labels = is.labels;
-  assignment = record { places = is.places; is_valid = is.cheapest.is_valid; named = same ∙ ap (λ (b : Assignment). b.protocols) is.is };
-}
+runnable_of program a is protocols same =
+    let valid = is.optimal.cheapest.valid in
+    record { labels = is.labels; assignment = record { places = valid.places; is_valid = valid.is_valid; named = same ∙ valid.named } }
 
 -- there is a code for each host
 pub code_count : (program : NormalForm) (protocols : List Proto) → length (host_codes program protocols) ≡ length program.hosts

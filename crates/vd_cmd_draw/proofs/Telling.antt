@@ -1,5 +1,5 @@
 -- Where the plan of `draw` ends well, it prints the drawing of the choice.
-use Rattle.std.proofs.Common.{◌≡◌, ℕ, Option, Some, None, List, refl, sym, ap, ◌∙◌, subst}
+use Rattle.std.proofs.Common.{◌≡◌, ℕ, Option, Some, None, List, refl, sym, ap, ◌∙◌, subst, pos}
 use Rattle.std.specs.Prelude.{option_map}
 use Rattle.vd_outside.specs.Files.{Contents}
 use Rattle.vd_core.specs.declared.normal.NormalForm.{NormalForm}
@@ -11,8 +11,10 @@ use Rattle.vd_constraints.specs.declared.labels.Labels.{Labels}
 use Rattle.vd_cmd_rewrite.specs.RunPrograms.{IsRunProgram}
 use Rattle.vd_cmd_rewrite.proofs.Front.{run_well_made}
 use Rattle.vd_space_optimum.proofs.Front.{cheapest}
+use Rattle.vd_search.specs.Answers.{nat_or_zero}
 use Rattle.vd_search_stages.specs.Choices.{IsChosen}
 use Rattle.vd_search_stages.specs.Optimum.{assigned}
+use Rattle.vd_search_stages.proofs.Front.{optimal_at}
 use Rattle.vd_space.specs.declared.problem.Problem.{Problem}
 use Rattle.vd_space.specs.Reading.{problem_of}
 use Rattle.vd_space.proofs.Front.{as_many, is_problem}
@@ -38,15 +40,17 @@ module _ (name : List ℕ) (contents : Contents) (source : Source) (held : Holds
       let made : IsWellMade program = run_well_made source program (made_of name contents source held) is_run in
       let best = cheapest problem list (is_problem program labels made) chosen in
       let a = assigned problem list in
+      let sum = add_up held.bytes program labels list made (best.is_valid.whole ∙ as_many program labels made) best.is_valid.valid in
+      let rows = ap nat_or_zero sum in
       subst (λ (x : Answer). TellsDrawing name contents x.printed) (sym is) (record {
         source = source;
         held = held;
         program = program;
         is_run = is_run;
         assignment = a;
-        selected = record { labels = labels; least = least; places = list; cheapest = best; is = refl };
+        selected = record { labels = labels; least = least; optimal = optimal_at problem list best (sym sum ∙ ap pos rows) };
         picture = refl;
-        costs = add_up held.bytes program labels list made (best.is_valid.whole ∙ as_many program labels made) best.is_valid.valid;
+        costs = rows;
       })
 
 pub drawings_tell : DrawingsTell

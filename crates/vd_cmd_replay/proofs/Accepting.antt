@@ -1,5 +1,5 @@
 -- The plan of accepted files ends well.
-use Rattle.std.proofs.Common.{◌≡◌, ℕ, ◌≤◌, false, Option, Some, None, List, [], length, Result, Ok, refl, sym, ap, subst, arith}
+use Rattle.std.proofs.Common.{◌≡◌, ℕ, ◌≤◌, false, Option, Some, None, List, [], length, Result, Ok, refl, sym, ap, subst, arith, ℤ}
 use Rattle.std.specs.Prelude.{nat_lt, option_map}
 use Rattle.std.proofs.lemmas.Bool.Decides.{nat_tests}
 use Rattle.vd_base.specs.Limits.{most_hosts}
@@ -24,7 +24,8 @@ use Rattle.vd_deal_versions.specs.Text.{Fit_by}
 use Rattle.vd_space.specs.declared.problem.Problem.{Problem}
 use Rattle.vd_space.specs.Reading.{problem_of}
 use Rattle.vd_space.proofs.Front.{is_problem}
-use Rattle.vd_space_optimum.proofs.Front.{back}
+use Rattle.vd_space.specs.Usual.{firm}
+use Rattle.vd_space_optimum.proofs.Front.{back, places_cheapest}
 use Rattle.vd_search_stages.specs.Choices.{ChoiceOutcomes, IsChosen, needed}
 use Rattle.vd_search_stages.specs.Optimum.{assigned, assignment_of}
 use Rattle.vd_search_stages.specs.declared.optimum.Assignment.{Assignment}
@@ -78,9 +79,16 @@ module _ (words : ReplayWords) (contents : Contents) (accepted : IsAccepted word
   few : length program.hosts ≤ most_hosts
   few = made.limits.hosts
 
-  -- the list is the choice of the problem's tree
-  chosen : IsChosen problem (Some accepted.selected.places)
-  chosen = back problem accepted.selected.places (is_problem program accepted.selected.labels made) accepted.selected.cheapest
+  abbrev places : List ℕ
+  places = accepted.selected.optimal.cheapest.valid.places
+
+  -- the places of its protocols are the choice of the problem's tree
+  chosen : IsChosen problem (Some places)
+  chosen = back problem places (is_problem program accepted.selected.labels made) (places_cheapest problem accepted.assignment.protocols accepted.selected.optimal.cheapest)
+
+  -- for which the budget is enough
+  enough : needed problem (Some places) ≤ words.budget
+  enough = subst (λ (z : ℤ). firm problem z ≤ words.budget) (sym accepted.selected.optimal.costs) accepted.enough
 
   are_deals : AreDeals accepted.held.asked.deals
   are_deals =
@@ -95,7 +103,6 @@ module _ (words : ReplayWords) (contents : Contents) (accepted : IsAccepted word
     λ texts outcomes choices.
         let least = labels_for accepted.selected.labels in
         let labelled = labels_with_these accepted.selected.labels (system_of program) (system_or_not (system_of program)) accepted.selected.least in
-        let places = accepted.selected.places in
         let choice : choices.choose problem ≡ Some places = chosen_once problem (choices.choose problem) (Some places) (choices.choose_is problem) chosen in
         let judged = judged_once accepted.held.asked.deals (outcomes.judge accepted.held.asked.deals) None (outcomes.judge_is accepted.held.asked.deals are_deals) accepted.consistent in
         let rest : Chosen → Contents → Plan = λ c. choice_plan outcomes accepted.held.asked (labelled_form c.program c.labels) c.assignment in
@@ -109,5 +116,5 @@ module _ (words : ReplayWords) (contents : Contents) (accepted : IsAccepted word
         (asked_ends contents outcomes texts words program.hosts accepted.held.asked (asked_plan outcomes least choices (sure_search choices) words.budget program) few are_asked
         (check_ends contents (labels_of least program) accepted.selected.labels (λ l. search_then choices (sure_search choices) words.budget program l rest) (ap (λ (r : Result Labels ℕ). as_labels least program r) labelled)
         (check_ends contents (as_searched words.budget (labelled_form program accepted.selected.labels) (sure_search choices problem words.budget)) [] (λ (bytes : List ℕ). rest (chosen_by choices program accepted.selected.labels bytes))
-        (ap (as_searched words.budget (labelled_form program accepted.selected.labels)) (searched choices problem words.budget places choice accepted.enough)) ends)))),
+        (ap (as_searched words.budget (labelled_form program accepted.selected.labels)) (searched choices problem words.budget places choice enough)) ends)))),
   )

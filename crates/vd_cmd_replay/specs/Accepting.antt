@@ -1,12 +1,13 @@
 -- Which files `replay` accepts.
-use Rattle.std.specs.Prelude.{◌≡◌, ◌≤◌, Some}
+use Rattle.std.specs.Prelude.{◌≡◌, ◌≤◌, pos}
 use Rattle.vd_outside.specs.Files.{Contents}
 use Rattle.vd_core.specs.declared.normal.NormalForm.{NormalForm}
 use Rattle.vd_cmd_rewrite.specs.RunPrograms.{IsRunProgram}
 use Rattle.vd_cmd.specs.declared.command.ReplayWords.{ReplayWords}
 use Rattle.vd_deal_items.specs.Validity.{IsConsistent}
 use Rattle.vd_space.specs.Reading.{problem_of}
-use Rattle.vd_search_stages.specs.Choices.{ChoiceOutcomes, needed}
+use Rattle.vd_space.specs.Usual.{firm}
+use Rattle.vd_search_stages.specs.Choices.{ChoiceOutcomes}
 use Rattle.vd_search_stages.specs.declared.optimum.Assignment.{Assignment}
 use Rattle.vd_cmd_frontend.specs.Outcomes.{TextOutcomes, LabelOutcomes}
 use Rattle.vd_cmd_choice.specs.Searching.{sure_search}
@@ -25,7 +26,7 @@ pub record IsAccepted (words : ReplayWords) (contents : Contents) : Type 0 where
   pub is_run : IsRunProgram held.source program
   pub assignment : Assignment
   pub selected : IsSelected program assignment
-  pub enough : needed (problem_of program selected.labels) (Some selected.places) ≤ words.budget
+  pub enough : firm (problem_of program selected.labels) (pos assignment.cost) ≤ words.budget
 
 -- With some function that gives least labellings, and whatever other functions pick outcomes, the plan of the command ends well.
 abbrev pub EndsWell : ReplayWords → Contents → Type 0

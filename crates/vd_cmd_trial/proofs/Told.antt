@@ -34,7 +34,7 @@ use Rattle.vd_space_optimum.proofs.Front.{back}
 use Rattle.vd_search_stages.specs.Choices.{IsChosen}
 use Rattle.vd_search_stages.specs.Optimum.{assigned}
 use Rattle.vd_search_stages.specs.declared.optimum.Assignment.{Assignment}
-use Rattle.vd_search_stages.proofs.Front.{chosen_once}
+use Rattle.vd_search_stages.proofs.Front.{chosen_once, has_places}
 use Rattle.vd_cmd_plan.specs.Labelled.{LabelledForm}
 use Rattle.vd_cmd_plan.specs.Plans.{Checks}
 use Rattle.vd_cmd_plan.specs.declared.answer.Answer.{Answer}
@@ -86,12 +86,14 @@ selected_once : (program : NormalForm) → IsWellMade program → (a b : Assignm
 selected_once program made a b one other =
     let labels : Ok one.labels ≡ Ok other.labels = labelled_once (system_of program) (Ok one.labels) (Ok other.labels) one.least other.least in
     let same : one.labels ≡ other.labels = cc labels in
-    let first : IsChosen (problem_of program one.labels) (Some one.places) = back (problem_of program one.labels) one.places (is_problem program one.labels made) one.cheapest in
-    let second : IsChosen (problem_of program other.labels) (Some other.places) = back (problem_of program other.labels) other.places (is_problem program other.labels made) other.cheapest in
-    let lists : Some one.places ≡ Some other.places =
-    chosen_once (problem_of program other.labels) (Some one.places) (Some other.places) (subst (λ (l : Labels). IsChosen (problem_of program l) (Some one.places)) same first) second in
-    let places : one.places ≡ other.places = cc lists in
-    one.is ∙ (λ i. assigned (problem_of program (same i)) (places i)) ∙ sym other.is
+    let at = has_places (problem_of program one.labels) a one.optimal in
+    let others = has_places (problem_of program other.labels) b other.optimal in
+    let first : IsChosen (problem_of program one.labels) (Some at.places) = back (problem_of program one.labels) at.places (is_problem program one.labels made) at.cheapest in
+    let second : IsChosen (problem_of program other.labels) (Some others.places) = back (problem_of program other.labels) others.places (is_problem program other.labels made) others.cheapest in
+    let lists : Some at.places ≡ Some others.places =
+    chosen_once (problem_of program other.labels) (Some at.places) (Some others.places) (subst (λ (l : Labels). IsChosen (problem_of program l) (Some at.places)) same first) second in
+    let places : at.places ≡ others.places = cc lists in
+    at.is ∙ (λ i. assigned (problem_of program (same i)) (places i)) ∙ sym others.is
 
 module _ (coordinates : ℕ) (program : NormalForm) where
   pub run_told : (a : Assignment) (asked : Asked) (report headed : Answer) → IsWellMade program → IsSelected program a → asked ≡ trial_asked coordinates program a.protocols → Suffice program a.protocols asked

@@ -10,3 +10,4 @@ mod Untied
 mod Passed
 mod Spent
 mod Assigned
+mod Optimal

@@ -4,12 +4,18 @@ use Rattle.vd_search.specs.Answers.{nat_or_zero}
 use Rattle.vd_space.specs.declared.problem.Problem.{Problem}
 use Rattle.vd_space.specs.Costs.{cost}
 use Rattle.vd_space.specs.Validity.{protocol}
+use Rattle.vd_space_optimum.specs.Cheapest.{IsCheapestAssignment, cost_of}
 use Rattle.vd_search_stages.specs.Choices.{ChoiceOutcomes, IsChosen}
 use Rattle.vd_search_stages.specs.Selecting.{IsAccepted}
 use Rattle.vd_search_stages.specs.declared.optimum.Assignment.{Assignment}
 use Rattle.vd_search_stages.specs.declared.optimum.Optimum.{Optimum}
 use Rattle.vd_search_stages.specs.declared.selecting.Selection.{Selection}
 use Rattle.vd_search_stages.specs.declared.selecting.Selection.TheVariants.{Found, NoAssignment}
+
+-- the valid assignment of least cost, and among these the first in order; and its cost
+pub record IsOptimal (problem : Problem) (a : Assignment) : Type 0 where
+  pub cheapest : IsCheapestAssignment problem a.protocols
+  pub costs : cost_of problem a.protocols cheapest.valid ≡ pos a.cost
 
 -- the protocols at these places of the list of all, and what they cost together
 abbrev pub assigned : Problem → List ℕ → Assignment
