@@ -5,10 +5,11 @@ use Rattle.vd_base.specs.declared.protocols.Proto.{Proto}
 use Rattle.vd_base.specs.Limits.{most_hosts}
 use Rattle.vd_core.specs.declared.normal.NormalForm.{NormalForm}
 use Rattle.vd_core.specs.Facts.{IsWellMade}
+use Rattle.vd_core.specs.Numbers.{NumbersFit}
 use Rattle.vd_execution.specs.declared.instructions.Instr.{Instr}
 use Rattle.vd_execution.specs.Joint.{code_of}
 use Rattle.vd_execution.specs.Text.{text}
-use Rattle.vd_projection.specs.Programs.{IsRunnable, host_codes, joint_of}
+use Rattle.vd_projection.specs.Programs.{CanRunAt, IsRunnable, host_codes, joint_of}
 use Rattle.vd_search_stages.specs.declared.optimum.Assignment.{Assignment}
 use Rattle.vd_cmd_choice.specs.Choice.{IsSelected}
 use Rattle.vd_space.specs.Reading.{problem_of}
@@ -22,6 +23,10 @@ pub runnable_of : (program : NormalForm) (a : Assignment) → IsSelected program
 runnable_of program a is protocols same =
     let valid = is.optimal.cheapest.valid in
     record { labels = is.labels; assignment = record { places = valid.places; is_valid = valid.is_valid; named = same ∙ valid.named } }
+
+pub can_run : (program : NormalForm) (a : Assignment) → IsWellMade program → NumbersFit program → IsSelected program a → (protocols : List Proto) → protocols ≡ a.protocols
+    → CanRunAt program protocols
+can_run program a made numbers is protocols same = record { made = made; numbers = numbers; runnable = runnable_of program a is protocols same }
 
 -- there is a code for each host
 pub code_count : (program : NormalForm) (protocols : List Proto) → length (host_codes program protocols) ≡ length program.hosts

@@ -68,12 +68,11 @@ fn compile_at(
     ensures computes { Computes (compiled_at program.now assignment.now text.now prefix.now) result }
     ensures tells { TellsPrograms program.now text.now prefix.now result }
 {
-    program.numbers_fit();
+    let hosts = &program.form().hosts;
     let printed = assignment_text(alloc, program, assignment)?;
     let protocols = assignment.protocols.as_slice();
     let codes = split(alloc, program, protocols)?;
     let plan = plan_of(text, printed.as_slice());
-    let hosts = &program.form().hosts;
     let stores = files_of(alloc, hosts, prefix, plan, codes)?;
     Ok(Answer {
         status: Status::Ended,

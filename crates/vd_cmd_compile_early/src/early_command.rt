@@ -42,13 +42,12 @@ fn compile_at(
     ensures computes { SomeOrder (λ joint. Computes (early_at program.now joint assignment.now text.now prefix.now) result) }
     ensures tells { TellsPrograms program.now text.now prefix.now result }
 {
-    program.numbers_fit();
+    let hosts = &program.form().hosts;
     let printed = assignment_text(alloc, program, assignment)?;
     let protocols = assignment.protocols.as_slice();
     let codes = split_early(alloc, program, protocols)?;
     let told = marked(alloc, printed.as_slice())?;
     let plan = plan_of(text, told.as_slice());
-    let hosts = &program.form().hosts;
     let stores = files_of(alloc, hosts, prefix, plan, codes)?;
     Ok(Answer {
         status: Status::Ended,

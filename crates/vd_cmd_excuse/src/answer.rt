@@ -1,7 +1,7 @@
 //! What the command stores and prints.
 
 ghost use Rattle.std.specs.Prelude.{◌≡◌, ◌<◌, ◌-◌, IfOk};
-ghost use Rattle.vd_projection.specs.Programs.{IsRunnable};
+ghost use Rattle.vd_projection.specs.Programs.{CanRunAt};
 ghost use Rattle.vd_cmd_plan.specs.Plans.{ended};
 ghost use Rattle.vd_cmd_deal.specs.Dealing.{deal_files};
 ghost use Rattle.vd_views_transcript.specs.Talk.{IsPlayable, talk};
@@ -39,7 +39,7 @@ fn said_text(
     deals: Deals,
 ) -> Result<Bytes, AllocError>
     requires host { host.0 < 2 }
-    requires runnable { IsRunnable program.now protocols.now }
+    requires runnable { CanRunAt program.now protocols.now }
     requires playable { IsPlayable program.now protocols.now inputs.now deals }
     ensures { IfOk result (λ text. text ≡
         talk_line program.now.hosts host (talk program.now protocols.now inputs.now deals (1 - host.0) host.0)) }
@@ -68,7 +68,7 @@ pub(crate) fn answer(
     out: &str,
 ) -> Result<Answer, AllocError>
     requires host { host.0 < 2 }
-    requires runnable { IsRunnable program.now protocols.now }
+    requires runnable { CanRunAt program.now protocols.now }
     requires playable { IsPlayable program.now protocols.now inputs.now deals }
     ensures { IfOk result (λ answer. answer ≡ ended (deal_files out.now stored.now)
         (talk_line program.now.hosts host (talk program.now protocols.now inputs.now deals (1 - host.0) host.0))) }

@@ -3,7 +3,7 @@
 ghost use Rattle.std.specs.Prelude.{◌≡◌, OnOk, IfOk, ◌<◌, length, true, ℕ};
 ghost use Rattle.vd_constraints.specs.declared.labels.Labels.{Labels};
 ghost use Rattle.vd_base.specs.Holders.{proto_in};
-ghost use Rattle.vd_projection.specs.Programs.{IsRunnable};
+ghost use Rattle.vd_projection.specs.Programs.{CanRunAt};
 ghost use Rattle.vd_views_programs.specs.Explained.{IsOfTwo};
 ghost use Rattle.vd_backend_laws.specs.Parts.{has_back_end};
 ghost use Rattle.vd_cmd_plan.specs.Plans.{Checks};
@@ -65,7 +65,7 @@ pub(crate) fn excused(
     runs: &Runs,
 ) -> Result<Deals, Status>
     requires host { host.0 < 2 }
-    requires runnable { IsRunnable program.now protocols.now }
+    requires runnable { CanRunAt program.now protocols.now }
     requires asked { AreAsked runs.now.first runs.now.second runs.now.deals }
     ensures checks { (l : Labels) → IsOfTwo program.now l protocols.now →
         Checks (excused_for program.now l protocols.now host runs.now) result }

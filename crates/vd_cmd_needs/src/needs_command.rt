@@ -5,7 +5,7 @@ ghost use Rattle.vd_base.specs.Limits.{most_search_budget, most_source_bytes};
 ghost use Rattle.vd_constraints.specs.Rules.{system_of};
 ghost use Rattle.vd_constraints.specs.Satisfies.{IsLeast};
 ghost use Rattle.vd_cmd_plan.specs.Plans.{Computes, ended};
-ghost use Rattle.vd_projection.specs.Programs.{IsRunnable};
+ghost use Rattle.vd_projection.specs.Programs.{CanRunAt};
 ghost use Rattle.vd_cmd_choice.specs.Choice.{IsSelected, chosen_of};
 ghost use Rattle.vd_cmd_needs.specs.Needing.{ExecutesBytes, ExecutesNeeds, ExecutesText, IsNoSource, needs_answer, needs_text};
 ghost use Rattle.vd_cmd_needs.specs.Telling.{IsNeedsOf, TellsBytes, TellsNeeds, TellsProgram, TellsText};
@@ -43,7 +43,7 @@ fn needs_text(
     protocols: &[Proto],
     each: bool,
 ) -> Result<Bytes, AllocError>
-    requires { IsRunnable program.now protocols.now }
+    requires { CanRunAt program.now protocols.now }
     ensures { IfOk result (λ text. text ≡ needs_text each program.now protocols.now) }
 {
     let needs = needs_of_program(alloc, program, protocols)?;

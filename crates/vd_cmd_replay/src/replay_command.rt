@@ -50,7 +50,7 @@ fn replay_counted(
     ensures tells { IfOk result (λ answer. IsReport program.now (program_outputs program.now asked.inputs) asked answer.printed) }
     ensures counts { OnOk result (packets.new ≡ Some (packets_for program.now assignment.now.protocols asked)) }
 {
-    program.numbers_fit();
+    let hosts = &program.form().hosts;
     let Asked {
         inputs,
         deals,
@@ -61,7 +61,7 @@ fn replay_counted(
     let codes = split(alloc, program, protocols)?;
     let world = play(alloc, codes, inputs, deals, &schedule)?;
     *packets = Some(world.packets_sent());
-    let printed = report(alloc, &program.form().hosts, &world, messages)?;
+    let printed = report(alloc, hosts, &world, messages)?;
     Ok(printing(alloc, printed))
 }
 

@@ -2,7 +2,7 @@
 
 ghost use Rattle.std.specs.Prelude.{◌≡◌, ◌≤◌, IfOk, length};
 ghost use Rattle.vd_base.specs.Limits.{most_hosts};
-ghost use Rattle.vd_projection.specs.Programs.{IsRunnable};
+ghost use Rattle.vd_projection.specs.Programs.{CanRunAt};
 ghost use Rattle.vd_deal_needs_programs.specs.Enough.{needs_for};
 
 use std::alloc::{AllocError, Global};
@@ -19,11 +19,10 @@ pub fn needs_of_program(
     program: &Program,
     protocols: &[Proto],
 ) -> Result<Items<HostNeeds>, AllocError>
-    requires { IsRunnable program.now protocols.now }
+    requires { CanRunAt program.now protocols.now }
     ensures needs { IfOk result (λ needs. needs ≡ needs_for program.now protocols.now) }
     ensures few { IfOk result (λ needs. length needs ≤ most_hosts) }
 {
-    program.numbers_fit();
     let codes = split(alloc, program, protocols)?;
     needs(alloc, codes.as_slice())
 }

@@ -3,7 +3,7 @@
 ghost use Rattle.std.specs.Prelude.{◌≡◌, ◌<◌, IfOk};
 ghost use Rattle.vd_constraints.specs.declared.labels.Labels.{Labels};
 ghost use Rattle.vd_noninter_difference.specs.Difference.{view_difference as difference};
-ghost use Rattle.vd_projection.specs.Programs.{IsRunnable};
+ghost use Rattle.vd_projection.specs.Programs.{CanRunAt};
 ghost use Rattle.vd_views_programs.specs.Explained.{IsOfTwo, plan_of};
 ghost use Rattle.vd_equivocation.specs.Excuse.{AreAsked, Excuses, HasWalked, Refuses};
 
@@ -32,7 +32,7 @@ pub fn excuse(
     deals: &Deals,
 ) -> Result<Deals, ViewFault>
     requires host { host.0 < 2 }
-    requires runnable { IsRunnable program.now protocols.now }
+    requires runnable { CanRunAt program.now protocols.now }
     requires asked { AreAsked first.now second.now deals.now }
     ensures ok { Excuses program.now protocols.now host first.now second.now deals.now result }
     ensures err { Refuses program.now protocols.now host first.now second.now deals.now result }
@@ -58,7 +58,7 @@ fn walk_both(
     deals: &Deals,
 ) -> Result<Walked, AllocError>
     requires host { host.0 < 2 }
-    requires runnable { IsRunnable program.now protocols.now }
+    requires runnable { CanRunAt program.now protocols.now }
     requires asked { AreAsked first.now second.now deals.now }
     ensures { IfOk result (λ walked. (l : Labels) → IsOfTwo program.now l protocols.now →
         HasWalked host (plan_of program.now protocols.now) first.now second.now deals.now walked) }

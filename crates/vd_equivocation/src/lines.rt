@@ -2,7 +2,7 @@
 
 ghost use Rattle.std.specs.Prelude.{IfOk};
 ghost use Rattle.vd_constraints.specs.declared.labels.Labels.{Labels};
-ghost use Rattle.vd_projection.specs.Programs.{IsRunnable};
+ghost use Rattle.vd_projection.specs.Programs.{CanRunAt};
 ghost use Rattle.vd_views_programs.specs.Explained.{IsOfTwo, plan_of};
 ghost use Rattle.vd_equivocation_steps.specs.Claims.{LeadTo};
 
@@ -21,7 +21,7 @@ pub(crate) fn steps_at(
     program: &Program,
     protocols: &[Proto],
 ) -> Result<Items<Step>, AllocError>
-    requires { IsRunnable program.now protocols.now }
+    requires { CanRunAt program.now protocols.now }
     ensures { IfOk result (λ steps. (l : Labels) → IsOfTwo program.now l protocols.now →
         LeadTo steps (plan_of program.now protocols.now)) }
 {

@@ -1,7 +1,7 @@
 ghost use Rattle.std.specs.Prelude.{◌≡◌, [], IfOk, length, map};
 ghost use Rattle.std.specs.List.{range_with_len};
 ghost use Rattle.vd_execution.specs.Text.{flat, pick};
-ghost use Rattle.vd_projection.specs.Programs.{IsRunnable, host_codes, joint_of};
+ghost use Rattle.vd_projection.specs.Programs.{CanRunAt, host_codes, joint_of};
 
 use std::alloc::{AllocError, Global};
 use vd_backend_all::Built;
@@ -24,10 +24,9 @@ pub fn joint_lines(
     program: &Program,
     protocols: &[Proto],
 ) -> Result<Items<Line>, AllocError>
-    requires { IsRunnable program.now protocols.now }
+    requires { CanRunAt program.now protocols.now }
     ensures { IfOk result (λ lines. lines ≡ flat (joint_of program.now protocols.now) []) }
 {
-    program.numbers_fit();
     let hosts = host_count(program);
     let built = Built::new(alloc, hosts);
     joint_code(alloc, &built, protocols, program)
@@ -51,10 +50,9 @@ pub fn split(
     program: &Program,
     protocols: &[Proto],
 ) -> Result<Items<Items<Instr>>, AllocError>
-    requires { IsRunnable program.now protocols.now }
+    requires { CanRunAt program.now protocols.now }
     ensures { IfOk result (λ codes. codes ≡ host_codes program.now protocols.now) }
 {
-    program.numbers_fit();
     let hosts = host_count(program);
     let lines = joint_lines(alloc, program, protocols)?;
     let codes = codes_of(alloc, hosts, lines.as_slice())?;

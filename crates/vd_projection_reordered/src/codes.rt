@@ -2,7 +2,7 @@ ghost use Rattle.std.specs.Prelude.{◌≡◌, [], IfOk, map};
 ghost use Rattle.std.specs.List.{range_with_len};
 ghost use Rattle.vd_execution.specs.Text.{pick};
 ghost use Rattle.vd_reorder.specs.Packets as packets;
-ghost use Rattle.vd_projection.specs.Programs.{IsRunnable};
+ghost use Rattle.vd_projection.specs.Programs.{CanRunAt};
 ghost use Rattle.vd_projection_reordered.specs.Early.{AreEarlyCodes, ComeEarly};
 
 use std::alloc::{AllocError, Global};
@@ -51,10 +51,9 @@ pub fn split_early(
     program: &Program,
     protocols: &[Proto],
 ) -> Result<Items<Items<Instr>>, AllocError>
-    requires { IsRunnable program.now protocols.now }
+    requires { CanRunAt program.now protocols.now }
     ensures { IfOk result (AreEarlyCodes program.now protocols.now) }
 {
-    program.numbers_fit();
     let hosts = host_count(program);
     let lines = joint_lines(alloc, program, protocols)?;
     let lines = early_lines(alloc, hosts, lines)?;

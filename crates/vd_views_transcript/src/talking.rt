@@ -1,7 +1,7 @@
 //! What one host sends another.
 
 ghost use Rattle.std.specs.Prelude.{◌≡◌, IfOk};
-ghost use Rattle.vd_projection.specs.Programs.{IsRunnable};
+ghost use Rattle.vd_projection.specs.Programs.{CanRunAt};
 ghost use Rattle.vd_views_transcript.specs.Talk.{IsPlayable, talk};
 
 use crate::filling::filled;
@@ -26,11 +26,10 @@ pub fn talk(
     from: HostId,
     to: HostId,
 ) -> Result<Words, AllocError>
-    requires runnable { IsRunnable program.now protocols.now }
+    requires runnable { CanRunAt program.now protocols.now }
     requires playable { IsPlayable program.now protocols.now inputs.now deals }
     ensures { IfOk result (λ words. words ≡ talk program.now protocols.now inputs.now deals from.0 to.0) }
 {
-    program.numbers_fit();
     let needs = needs_of_program(alloc, program, protocols)?;
     let inputs = filled(alloc, inputs, needs.as_slice())?;
     let codes = split(alloc, program, protocols)?;

@@ -2,20 +2,20 @@ use Rattle.std.proofs.Common.{List, Ok, Err, subst, sym}
 use Rattle.std.proofs.lemmas.Result.{err_from_is_err_and}
 use Rattle.vd_base.specs.declared.protocols.Proto.{Proto}
 use Rattle.vd_cmd_plan.proofs.Front.{any_memory}
-use Rattle.vd_cmd_compile.proofs.Front.{runnable_of}
+use Rattle.vd_cmd_compile.proofs.Front.{can_run}
 use Rattle.vd_views_transcript.specs.Talk.{IsPlayable}
 use Rattle.vd_cmd_excuse.proofs.Explained.{are_asked, chosen_two, playable, seen_two, told}
 use Rattle.vd_cmd_excuse.proofs.Answered.{answer_at, checks_at, explained, not_excused}
 use Rattle.vd_cmd_excuse.proofs.excuse_command.excuse_free.Goals as goal
 
 pub excused-requires-clause-runnable : goal.excused-requires-clause-runnable
-excused-requires-clause-runnable c = runnable_of c.args.program.now c.args.assignment.now c.requires.selected c.as_slice-protocols.result.now c.as_slice-protocols.ensures
+excused-requires-clause-runnable c = can_run c.args.program.now c.args.assignment.now c.numbers_fit.ensures.well_made c.numbers_fit.ensures.fit c.requires.selected c.as_slice-protocols.result.now c.as_slice-protocols.ensures
 
 pub excused-requires-clause-asked : goal.excused-requires-clause-asked
 excused-requires-clause-asked c = are_asked c.args.runs c.requires.runs.read c.requires.runs.deals
 
 pub answer-requires-clause-runnable : goal.answer-requires-clause-runnable
-answer-requires-clause-runnable c = runnable_of c.args.program.now c.args.assignment.now c.requires.selected c.as_slice-protocols.result.now c.as_slice-protocols.ensures
+answer-requires-clause-runnable c = can_run c.args.program.now c.args.assignment.now c.numbers_fit.ensures.well_made c.numbers_fit.ensures.fit c.requires.selected c.as_slice-protocols.result.now c.as_slice-protocols.ensures
 
 pub answer-requires-clause-playable : goal.answer-requires-clause-playable
 answer-requires-clause-playable c =

@@ -1,12 +1,12 @@
 use Rattle.std.proofs.Common.{List, ap, ◌∙◌}
 use Rattle.vd_base.specs.declared.protocols.Proto.{Proto}
-use Rattle.vd_cmd_compile.proofs.Front.{runnable_of}
+use Rattle.vd_cmd_compile.proofs.Front.{can_run}
 use Rattle.vd_cmd_needs.specs.Needing.{needs_text}
 use Rattle.vd_cmd_needs.proofs.Told.{needs_told, prints}
 use Rattle.vd_cmd_needs.proofs.needs_command.needs_at.Goals as goal
 
 pub needs_text-requires : goal.needs_text-requires
-needs_text-requires c = runnable_of c.args.program.now c.args.assignment.now c.requires c.as_slice-protocols.result.now c.as_slice-protocols.ensures
+needs_text-requires c = can_run c.args.program.now c.args.assignment.now c.numbers_fit.ensures.well_made c.numbers_fit.ensures.fit c.requires c.as_slice-protocols.result.now c.as_slice-protocols.ensures
 
 pub returns-clause-computes : goal.returns-clause-computes
 returns-clause-computes c =

@@ -5,13 +5,13 @@ use Rattle.vd_deal_needs.specs.declared.taking.HostNeeds.{HostNeeds}
 use Rattle.vd_deal_needs.specs.Sizes.{sizes_of}
 use Rattle.vd_tape.specs.Made.{AreCounts}
 use Rattle.vd_deal_needs_programs.specs.Enough.{needs_for}
-use Rattle.vd_cmd_compile.proofs.Front.{runnable_of}
+use Rattle.vd_cmd_compile.proofs.Front.{can_run}
 use Rattle.vd_cmd_trial.proofs.Enough.{asked_there, can_be_dealt, inputs_few, made_there, splits, suffice_there}
 use Rattle.vd_cmd_trial.specs.Trial.{most_inputs}
 use Rattle.vd_cmd_trial.proofs.asking.asked_at.Goals as goal
 
 pub needs_of_program-requires : goal.needs_of_program-requires
-needs_of_program-requires c = runnable_of c.args.program.now c.args.assignment.now c.requires.selected c.as_slice-protocols.result.now c.as_slice-protocols.ensures
+needs_of_program-requires c = can_run c.args.program.now c.args.assignment.now c.numbers_fit.ensures.well_made c.numbers_fit.ensures.fit c.requires.selected c.as_slice-protocols.result.now c.as_slice-protocols.ensures
 
 pub asked_by-requires-clause-few : goal.asked_by-requires-clause-few
 asked_by-requires-clause-few c = subst (λ (needs : List HostNeeds). length needs ≤ most_hosts) (sym c.as_slice.ensures) (c.in_ok-needs.ensures {u = tt}).few

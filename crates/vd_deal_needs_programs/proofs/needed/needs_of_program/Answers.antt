@@ -7,11 +7,11 @@ use Rattle.vd_deal_needs_programs.proofs.needed.needs_of_program.Goals as goal
 
 pub needs-requires-clause-few : goal.needs-requires-clause-few
 needs-requires-clause-few c =
-    few_codes c.args.program.now c.args.protocols.now c.numbers_fit.ensures.well_made (c.as_slice.result.now) (c.as_slice.ensures ∙ c.in_ok-codes.ensures {u = tt})
+    few_codes c.args.program.now c.args.protocols.now c.requires.made (c.as_slice.result.now) (c.as_slice.ensures ∙ c.in_ok-codes.ensures {u = tt})
 
 pub needs-requires-clause-countable : goal.needs-requires-clause-countable
 needs-requires-clause-countable c =
-    split_codes c.args.program.now c.args.protocols.now (record { made = c.numbers_fit.ensures.well_made; numbers = c.numbers_fit.ensures.fit; runnable = c.requires })
+    split_codes c.args.program.now c.args.protocols.now c.requires
     (c.as_slice.result.now) (c.as_slice.ensures ∙ c.in_ok-codes.ensures {u = tt})
 
 pub returns-clause-needs : goal.returns-clause-needs
@@ -21,4 +21,4 @@ returns-clause-needs c =
 pub returns-clause-few : goal.returns-clause-few
 returns-clause-few c =
     few_needs c.needs.result c.as_slice.result.now
-    (few_codes c.args.program.now c.args.protocols.now c.numbers_fit.ensures.well_made c.as_slice.result.now (c.as_slice.ensures ∙ c.in_ok-codes.ensures {u = tt})) c.needs.ensures
+    (few_codes c.args.program.now c.args.protocols.now c.requires.made c.as_slice.result.now (c.as_slice.ensures ∙ c.in_ok-codes.ensures {u = tt})) c.needs.ensures

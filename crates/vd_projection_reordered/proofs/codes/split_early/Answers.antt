@@ -3,5 +3,5 @@ use Rattle.vd_projection_reordered.proofs.codes.split_early.Goals as goal
 
 pub returns : goal.returns
 returns c =
-    codes_come_early c.args.program.now c.args.protocols.now (record { made = c.numbers_fit.ensures.well_made; numbers = c.numbers_fit.ensures.fit; runnable = c.requires }) c.host_count-hosts.result c.host_count-hosts.ensures
+    codes_come_early c.args.program.now c.args.protocols.now c.requires c.host_count-hosts.result c.host_count-hosts.ensures
     c.in_ok-lines.lines c.in_ok-lines-2.lines c.as_slice.result.now (c.in_ok-lines.ensures {u = tt}) (c.in_ok-lines-2.ensures {u = tt}) c.as_slice.ensures c.codes_of.result c.codes_of.ensures
