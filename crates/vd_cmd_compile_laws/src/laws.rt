@@ -17,7 +17,7 @@ pub fn compiled_files_are_read_back()
 pub fn compiled_files_can_be_read(program: &Program)
     ensures { CompiledFilesCanBeRead program.now }
 {
-    program.numbers_fit();
+    let _form = program.form();
 }
 
 /// The names of the hosts of a source, each with one byte before it, take no more bytes than the text of the source has.

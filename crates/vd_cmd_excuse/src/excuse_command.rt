@@ -43,7 +43,7 @@ fn excuse_free(
         ExecutesExcused program.now l host runs out.now assignment.now.protocols result }
     ensures tells { TellsAt host program.now out.now runs result }
 {
-    program.numbers_fit();
+    let _form = program.form();
     let protocols = assignment.protocols.as_slice();
     let stored = excused(alloc, program, protocols, host, &runs)?;
     let Runs {

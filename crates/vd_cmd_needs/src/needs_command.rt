@@ -66,7 +66,7 @@ fn needs_at(
     ensures computes { Computes (ended [] (needs_text each program.now assignment.now.protocols)) result }
     ensures tells { IfOk result (λ answer. IsNeedsOf each program.now answer.printed) }
 {
-    program.numbers_fit();
+    let _form = program.form();
     let protocols = assignment.protocols.as_slice();
     let printed = needs_text(alloc, program, protocols, each)?;
     Ok(printing(alloc, printed))

@@ -99,8 +99,8 @@ pub fn run_program(alloc: Global, source: &Resolved) -> Result<Program, AllocErr
     ensures tells { IfOk result (TellsAs source.now) }
 {
     let program = elaborate(alloc, source)?;
-    program.numbers_fit();
+    let _form = program.form();
     let turned = with_selections(alloc, program)?;
-    turned.numbers_fit();
+    let _turned_form = turned.form();
     with_loops(alloc, turned)
 }

@@ -101,7 +101,7 @@ pub(crate) fn asked_at(
     ensures consistent { IfOk result (λ asked. IsConsistent asked.deals) }
     ensures suffice { IfOk result (Suffice program.now assignment.now.protocols) }
 {
-    program.numbers_fit();
+    let _form = program.form();
     let protocols = assignment.protocols.as_slice();
     let needs = needs_of_program(alloc, program, protocols)?;
     asked_by(alloc, needs.as_slice(), coordinates)

@@ -23,7 +23,7 @@ pub struct Lift {
 
 /// What shifts come to, with room for what is lifted. It is made once and written again and again.
 #[derive(Drop)]
-pub(crate) struct Lifting {
+pub struct Lifting {
     /// What the shifts come to by all settings.
     pub nets: Nets,
     /// What is lifted of it.
