@@ -19,7 +19,7 @@ use vd_elaborate::elaborate;
 use vd_outside::Files;
 use vd_report::labels_text;
 use vd_resolve::Resolved;
-use vd_solver::{solve, solve_rules};
+use vd_solver::{first_failing, solve_rules};
 
 /// The least labels of a program, or the first check that fails.
 pub fn least_labels(alloc: Global, program: &Program) -> Result<Labels, Status>
@@ -29,11 +29,10 @@ pub fn least_labels(alloc: Global, program: &Program) -> Result<Labels, Status>
     let collected = constraints(alloc, program)?;
     let checks = collected.system.checks();
     let origins = collected.origins.as_slice();
-    let solved = solve(alloc, &collected.system)?;
-    match solved {
-        Ok(labels) => Ok(labels),
-        Err(number) => {
-            let solution = solve_rules(alloc, &collected.system)?;
+    let solution = solve_rules(alloc, &collected.system)?;
+    match first_failing(&collected.system, &solution) {
+        None => Ok(solution),
+        Some(number) => {
             let fault = flow_fault(alloc, program.form(), checks, origins, &solution, number)?;
             Err(Status::Flow(fault))
         }

@@ -1,7 +1,9 @@
 -- As many origins stand beside a system as it has checks.
-use Rattle.std.proofs.Common.{◌≡◌, ℕ, ◌+◌, List, [], ◌∷◌, ◌++◌, Option, Some, None, Result, Ok, Err, length, map, slice_get, refl, sym, ap, ◌∙◌, subst, subst₂, arith, length-append}
+use Rattle.std.proofs.Common.{◌≡◌, ℕ, ◌+◌, ◌≤◌, true, ltb, get_or, List, [], ◌∷◌, ◌++◌, Option, Some, None, Result, Ok, Err, length, map, slice_get, refl, sym, ap, ◌∙◌, subst, subst₂, arith, length-append}
 use Rattle.std.specs.Prelude.{IfOk}
+use Rattle.std.proofs.lemmas.Bool.{ltb-true}
 use Rattle.std.proofs.lemmas.List.{append-nil}
+use Rattle.std.proofs.lemmas.Option.{slice_get_read, slice_get_past}
 use Rattle.std.specs.Option.{option_and_then, option_map, option_map_or}
 use Rattle.vd_base.specs.declared.ids.SlotId.{SlotId}
 use Rattle.vd_core.specs.declared.normal.Right.{Right}
@@ -119,3 +121,18 @@ collected_as_many p (Err fault) system origins = tt
 -- nothing asks
 pub none_asks : (before more : List Origin) → more ≡ [] → before ≡ before ++ more
 none_asks before more none = sym (append-nil before) ∙ ap (λ xs. before ++ xs) (sym none)
+
+-- what is read of the slots of a program, at a number
+module _ (p : NormalForm) (x : SlotId) (slots : List made.Slot) (same : slots ≡ p.slots) (i : ℕ) (at : i ≡ x.0) where
+  abbrev asked : Option made.Slot → List Origin
+  asked slot = option_map_or (λ (slot : made.Slot). label_origins slot.label) slot []
+
+  read_here : slot_origins p x ≡ asked (slice_get slots i)
+  read_here = ap (λ k. asked (slice_get p.slots k)) (sym at) ∙ ap (λ (xs : List made.Slot). asked (slice_get xs i)) (sym same)
+
+  -- there is no such slot, or no label is written there
+  pub no_slot_asks : length slots ≤ i → slot_origins p x ≡ []
+  no_slot_asks past = read_here ∙ ap asked (slice_get_past slots i past)
+
+  pub no_label_asks : (slot : made.Slot) → true ≡ ltb i (length slots) → slot ≡ get_or slots i slot → slot.label ≡ None → slot_origins p x ≡ []
+  no_label_asks slot low read none = read_here ∙ ap asked (slice_get_read slots (length slots) i slot refl (ltb-true i (length slots) (sym low)) read) ∙ ap label_origins none

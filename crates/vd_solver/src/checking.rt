@@ -1,18 +1,19 @@
-//! The checks at a labelling.
+//! The checks at the least solution of the rules.
 
-ghost use Rattle.std.specs.Prelude.{◌≡◌, ◌^◌, ◌<◌, All, MatchOption, length};
-ghost use Rattle.vd_constraints.specs.Satisfies.{HoldsCheck, IsFirstWithout, formula_at};
+ghost use Rattle.std.specs.Prelude.{MatchOption};
+ghost use Rattle.vd_constraints.specs.Outcomes.{HasNoLabelling};
+ghost use Rattle.vd_constraints.specs.Satisfies.{IsLeast, IsLeastSolution};
 
-use vd_constraints::{Check, Labels};
+use vd_constraints::{Labels, System};
 
-/// The place of the first check that fails at the labelling.
-pub(crate) fn first_failing(checks: &[Check], labels: &Labels) -> Option<u32>
-    requires few { length checks.now < 2 ^ 32 }
-    requires names { All (λ check. check.constant.names ≡ (formula_at labels.now check.part).names) checks.now }
-    ensures { MatchOption result (All (HoldsCheck labels.now) checks.now) (IsFirstWithout (HoldsCheck labels.now) checks.now) }
+/// The first check that fails at the least solution of the rules, so that no labelling satisfies the system; none where all hold, so that
+/// this is the least labelling.
+pub fn first_failing(system: &System, solution: &Labels) -> Option<u32>
+    requires { IsLeastSolution system.now solution.now }
+    ensures { MatchOption result (IsLeast system.now solution.now) (HasNoLabelling system.now) }
 {
-    for (place, check) in checks.iter().enumerate() {
-        if !check.constant.acts_for(&labels.part(check.part)) {
+    for (place, check) in system.checks().iter().enumerate() {
+        if !check.constant.acts_for(&solution.part(check.part)) {
             return Some(place as u32);
         }
     }

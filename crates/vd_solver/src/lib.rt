@@ -7,4 +7,5 @@ mod readers;
 mod solving;
 mod waiting;
 
+pub use checking::first_failing;
 pub use solving::{solve, solve_rules};

@@ -20,7 +20,7 @@ pub fn solve(alloc: Global, system: &System) -> Result<Result<Labels, u32>, Allo
     ensures { IfOk result (IsLabelled system.now) }
 {
     let labels = solve_rules(alloc, system)?;
-    match first_failing(system.checks(), &labels) {
+    match first_failing(system, &labels) {
         Some(check) => Ok(Err(check)),
         None => Ok(Ok(labels)),
     }

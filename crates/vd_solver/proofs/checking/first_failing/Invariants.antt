@@ -4,4 +4,4 @@ use Rattle.vd_constraints.specs.Satisfies.{HoldsCheck}
 use Rattle.vd_solver.proofs.checking.first_failing.Given as goal
 
 abbrev pub invariant-loop-place : goal.invariant-loop-place
-invariant-loop-place l = All (HoldsCheck l.labels) (take l.place l.checks)
+invariant-loop-place l = All (HoldsCheck l.solution) (take l.place l.system.checks)
