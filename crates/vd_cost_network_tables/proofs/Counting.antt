@@ -1,6 +1,6 @@
 -- What shifts come to, one shift after the other.
-use Rattle.std.proofs.Common.{◌≡◌, ◌≢◌, ℕ, zero, suc, ◌+◌, ◌*◌, ◌<◌, ◌≤◌, Bool, true, false, cond, ◌&&◌, Option, Some, None, List, [], ◌∷◌, ◌++◌, length, take, get_or, map, set, replicate, refl, sym, ap, ap₂, ◌∙◌, arith, ℤ, pos, ◌+ℤ◌, slice_get, option_map}
-use Rattle.std.specs.Prelude.{All, ◌==◌}
+use Rattle.std.proofs.Common.{◌≡◌, ◌≢◌, ℕ, zero, suc, ◌+◌, ◌<◌, Bool, true, false, cond, ◌&&◌, Option, Some, None, List, [], ◌∷◌, ◌++◌, length, take, get_or, map, set, replicate, refl, sym, ap, ap₂, ◌∙◌, arith, ℤ, pos, ◌+ℤ◌, slice_get, option_map}
+use Rattle.std.specs.Prelude.{◌==◌}
 use Rattle.std.specs.Option.{option_map_or}
 use Rattle.std.proofs.lemmas.Int.{ints}
 use Rattle.std.proofs.lemmas.Bool.{cond-true, cond-false, eq-eqb, ne_eqb}
@@ -18,7 +18,7 @@ use Rattle.vd_cost_network_tables.specs.declared.sums.Rows.{Rows}
 use Rattle.vd_cost_network_tables.specs.declared.sums.Rows.TheVariants.{Firsts, Seconds, Points}
 use Rattle.vd_cost_network_tables.specs.Sums.{part, row_of, side_of, sums_of}
 use Rattle.vd_cost_network_tables.specs.Tables.{raw_arc}
-use Rattle.vd_space_terms.proofs.Front.{same_by_place, same_everywhere, set_by_place}
+use Rattle.vd_space_terms.proofs.Front.{if_within, same_by_place, same_everywhere, set_by_place}
 
 both_true : (a b : Bool) → a ≡ true → b ≡ true → (a && b) ≡ true
 both_true a b first second = ap₂ (λ x y. x && y) first second
@@ -29,28 +29,6 @@ first_false a b first = ap (λ x. x && b) first
 second_false : (a b : Bool) → b ≡ false → (a && b) ≡ false
 second_false true b second = second
 second_false false b second = refl
-
--- ---- small sums
-
-pub total_within : {X : Type 0} (f : X → ℤ) (xs : List X) → All (λ x. IsWithin 4294967296 (f x)) xs → IsWithin (4294967296 * length xs) (total f xs)
-total_within f [] each = record { low = omega (arith, ints); high = omega (arith, ints) }
-total_within f (x ∷ xs) each =
-    let here : IsWithin 4294967296 (f x) = each 0 x (omega arith) in
-    let rest = total_within f xs (λ k d low. each (suc k) d (omega arith)) in
-    let here_low = here.low in
-    let here_high = here.high in
-    let rest_low = rest.low in
-    let rest_high = rest.high in
-    record { low = omega (arith, ints, here_low, rest_low); high = omega (arith, ints, here_high, rest_high) }
-
-pub no_longer : {X : Type 0} (n : ℕ) (xs : List X) → length (take n xs) ≤ length xs
-no_longer zero xs = omega arith
-no_longer (suc n) [] = omega arith
-no_longer (suc n) (x ∷ xs) = let rest = no_longer n xs in omega (arith, rest)
-
-pub if_within : (test : Bool) (z : ℤ) → IsWithin 4294967296 z → IsWithin 4294967296 (cond test z (pos 0))
-if_within true z is = is
-if_within false z is = record { low = omega (arith, ints); high = omega (arith, ints) }
 
 -- ---- one shift more
 

@@ -4,25 +4,17 @@ use Rattle.std.proofs.lemmas.Int.{ints}
 use Rattle.std.proofs.lemmas.List.{get_or_past}
 use Rattle.vd_search_tree.specs.declared.shift.Shift.{Shift}
 use Rattle.vd_space.specs.Costs.{total}
-use Rattle.vd_space.specs.Bounds.{signed}
 use Rattle.vd_space.proofs.Front.{listed_or_not}
 use Rattle.vd_space_prefix.specs.Transfers.{IsWithin, by_place}
 use Rattle.vd_space_prefix.proofs.Front.{at_place, size_by_place}
-use Rattle.vd_space_terms.proofs.Front.{place_within}
+use Rattle.vd_space_terms.proofs.Front.{no_longer, place_within, whole_within}
 use Rattle.vd_cost_network_tables.specs.declared.raw.RawArc.{RawArc}
 use Rattle.vd_cost_network_tables.specs.declared.sums.Rows.{Rows}
 use Rattle.vd_space_terms.specs.Sums.{AreSmallShifts, AreSmallSums}
 use Rattle.vd_cost_network_tables.specs.Sums.{part, sums_of}
-use Rattle.vd_cost_network_tables.proofs.Counting.{total_within, no_longer, part_within}
+use Rattle.vd_cost_network_tables.proofs.Counting.{part_within}
 
 -- ---- sums of shifts are small
-
-pub whole_within : (f : Shift → ℤ) (shifts : List Shift) → length shifts ≤ 131072 → AreSmallShifts shifts → ((shift : Shift) → IsWithin 4294967296 (signed shift) → IsWithin 4294967296 (f shift)) → IsWithin 562949953421312 (total f shifts)
-whole_within f shifts few small each =
-    let within = total_within f shifts (λ k d low. each (get_or shifts k d) (small k d low)) in
-    let low = within.low in
-    let high = within.high in
-    record { low = omega (arith, ints, low, few); high = omega (arith, ints, high, few) }
 
 -- an entry of it, in the loop over shifts
 pub here_within : (arcs : List RawArc) (rows : Rows) (count places i : ℕ) (shifts : List Shift) (sums : List (List ℤ)) (row place : ℕ) (line : List ℤ) → length shifts ≤ 131072 → AreSmallShifts (take i shifts)

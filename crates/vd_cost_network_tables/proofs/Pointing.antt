@@ -18,7 +18,7 @@ use Rattle.vd_space.proofs.Front.{listed_or_not}
 use Rattle.vd_space_prefix.specs.Tables.{gain_at}
 use Rattle.vd_space_prefix.specs.Transfers.{IsWithin, by_place}
 use Rattle.vd_space_prefix.proofs.Front.{at_place, size_by_place}
-use Rattle.vd_space_terms.proofs.Front.{get_or_any, same_by_place}
+use Rattle.vd_space_terms.proofs.Front.{get_or_any, if_within, same_by_place, whole_within}
 use Rattle.vd_space_tables.specs.Values.{merged_value, together}
 use Rattle.vd_space_tables.proofs.Front.{HasAtMost, add_within, more_within, operation_value_small, outputs_value_small}
 use Rattle.vd_cost_network.specs.Points.{Switch, off, points, switches}
@@ -33,10 +33,9 @@ use Rattle.vd_space_terms.specs.Sums.{AreSmallShifts, AreSmallSums}
 use Rattle.vd_cost_network_tables.specs.Sums.{part, sums_of}
 use Rattle.vd_cost_network_tables.specs.Tables.{point_table, point_tables_of, raw_arc, switch_values, table_at, table_by, table_of_values, tests_of}
 use Rattle.vd_cost_network_tables.proofs.Costs.{map_map}
-use Rattle.vd_cost_network_tables.proofs.Counting.{if_within, points_shifted}
+use Rattle.vd_cost_network_tables.proofs.Counting.{points_shifted}
 use Rattle.vd_cost_network_tables.proofs.Owning.{nothing_shifted}
 use Rattle.vd_cost_network_tables.proofs.Placed.{tests_size}
-use Rattle.vd_cost_network_tables.proofs.Placing.{whole_within}
 use Rattle.vd_cost_network_tables.proofs.Ranging.{point_table_small}
 use Rattle.vd_cost_network_tables.proofs.Tabled.{values_table}
 

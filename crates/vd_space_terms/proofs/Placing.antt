@@ -33,7 +33,7 @@ use Rattle.vd_space_terms.proofs.Network.{candidates_at, network_more, shifted_a
 
 -- ---- sums of shifts are small
 
-whole_within : (f : Shift → ℤ) (shifts : List Shift) → length shifts ≤ 131072 → AreSmallShifts shifts → ((shift : Shift) → IsWithin 4294967296 (signed shift) → IsWithin 4294967296 (f shift)) → IsWithin 562949953421312 (total f shifts)
+pub whole_within : (f : Shift → ℤ) (shifts : List Shift) → length shifts ≤ 131072 → AreSmallShifts shifts → ((shift : Shift) → IsWithin 4294967296 (signed shift) → IsWithin 4294967296 (f shift)) → IsWithin 562949953421312 (total f shifts)
 whole_within f shifts few small each =
     let within = total_within f shifts (λ k d low. each (get_or shifts k d) (small k d low)) in
     let low = within.low in
