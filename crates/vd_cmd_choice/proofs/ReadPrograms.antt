@@ -13,9 +13,9 @@ use Rattle.vd_cmd_plan.specs.Plans.{Checks, Executes, ExecutesStep, Plan, check_
 use Rattle.vd_cmd_plan.specs.declared.status.Status.{Status}
 use Rattle.vd_cmd_plan.specs.declared.status.Status.TheVariants.{Memory}
 use Rattle.vd_cmd_plan.proofs.Front.{loaded_is, any_memory, check_step, load_step}
-use Rattle.vd_cmd_frontend.specs.Outcomes.{LabelOutcomes, TextOutcomes}
-use Rattle.vd_cmd_frontend.proofs.Front.{meets}
-use Rattle.vd_cmd_frontend.specs.Sources.{resolved_of, source_of}
+use Rattle.vd_cmd_labels.specs.Outcomes.{LabelOutcomes, TextOutcomes}
+use Rattle.vd_cmd_labels.proofs.Front.{meets}
+use Rattle.vd_cmd_labels.specs.Sources.{resolved_of, source_of}
 use Rattle.vd_cmd_rewrite.specs.RunPrograms.{IsRunProgram, TellsAs, run_form}
 use Rattle.vd_cmd_choice.specs.Programs.{HoldsProgram, IsProgramOf, LoadsProgram, LoadsSourceProgram, ReadsProgram, text_program_then}
 use Rattle.vd_cmd_choice.specs.declared.programs.SourceProgram.{SourceProgram}

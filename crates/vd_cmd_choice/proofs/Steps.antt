@@ -16,8 +16,8 @@ use Rattle.vd_cmd_plan.specs.declared.answer.Answer.{Answer}
 use Rattle.vd_cmd_plan.specs.declared.status.Status.{Status}
 use Rattle.vd_cmd_plan.specs.declared.status.Status.TheVariants.{Ended, Memory, Spent}
 use Rattle.vd_cmd_plan.proofs.Front.{Follows, check_follows}
-use Rattle.vd_cmd_frontend.specs.Labelling.{labels_of}
-use Rattle.vd_cmd_frontend.specs.Outcomes.{LabelOutcomes, TextOutcomes}
+use Rattle.vd_cmd_labels.specs.Labelling.{labels_of}
+use Rattle.vd_cmd_labels.specs.Outcomes.{LabelOutcomes, TextOutcomes}
 use Rattle.vd_cmd_choice.specs.Choice.{Chosen, Chooses, IsChoiceFor, IsChoiceIn, as_searched, assigned_answer, choice_of_then, chosen_by, chosen_of, no_list, search_then, source_choice_then, text_choice_then}
 use Rattle.vd_cmd_choice.specs.Outcomes.{CertificateOutcomes}
 use Rattle.vd_cmd_choice.specs.Searching.{Certified, GaveUp, Search, Searched, SomeSearch, is_accepted, searched_by, sure_search}

@@ -8,8 +8,8 @@ use Rattle.vd_anf.specs.Normal.{normal_form}
 use Rattle.vd_cmd_plan.specs.Held.{IsHeld}
 use Rattle.vd_cmd_plan.specs.Plans.{ExecutesStep, Plan, check_then, file_then}
 use Rattle.vd_cmd_plan.specs.declared.status.Status.{Status}
-use Rattle.vd_cmd_frontend.specs.Outcomes.{LabelOutcomes, TextOutcomes}
-use Rattle.vd_cmd_frontend.specs.Sources.{IsSourceText, resolved_of, source_of}
+use Rattle.vd_cmd_labels.specs.Outcomes.{LabelOutcomes, TextOutcomes}
+use Rattle.vd_cmd_labels.specs.Sources.{IsSourceText, resolved_of, source_of}
 use Rattle.vd_cmd_rewrite.specs.RunPrograms.{IsRunProgram, TellsAs, run_form}
 use Rattle.vd_cmd_choice.specs.declared.programs.SourceProgram.{SourceProgram}
 

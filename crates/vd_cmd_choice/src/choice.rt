@@ -10,7 +10,7 @@ ghost use Rattle.vd_cmd_choice.specs.Choice.{Chooses, IsChoiceFor, Searches, no_
 use std::alloc::{AllocError, Global};
 use vd_base::Bytes;
 use vd_base_lists::Items;
-use vd_cmd_frontend::least_labels;
+use vd_cmd_labels::least_labels;
 use vd_cmd_plan::{Answer, Labelled, Status};
 use vd_constraints::Labels;
 use vd_core::Program;

@@ -8,7 +8,7 @@ ghost use Rattle.vd_cmd_choice.specs.Programs.{HasText, HoldsProgram, IsProgramO
 use std::alloc::Global;
 use vd_base::Bytes;
 use vd_base::limits::SOURCE_BYTES;
-use vd_cmd_frontend::{read_source, resolve_source};
+use vd_cmd_labels::{read_source, resolve_source};
 use vd_cmd_plan::{Status, load};
 use vd_cmd_rewrite::run_program;
 use vd_core::Program;

@@ -45,9 +45,9 @@ use Rattle.vd_cmd_plan.specs.Plans.{Plan, answer_then, check_then, ended}
 use Rattle.vd_cmd_plan.specs.declared.answer.Answer.{Answer}
 use Rattle.vd_cmd_plan.specs.declared.status.Status.{Status}
 use Rattle.vd_cmd_plan.specs.declared.status.Status.TheVariants.{Ended, Memory, NoAssignment, Spent}
-use Rattle.vd_cmd_frontend.specs.Outcomes.{LabelOutcomes, TextOutcomes}
-use Rattle.vd_cmd_frontend.specs.Labelling.{labels_of}
-use Rattle.vd_cmd_frontend.specs.Sources.{HoldsSource}
+use Rattle.vd_cmd_labels.specs.Outcomes.{LabelOutcomes, TextOutcomes}
+use Rattle.vd_cmd_labels.specs.Labelling.{labels_of}
+use Rattle.vd_cmd_labels.specs.Sources.{HoldsSource}
 use Rattle.vd_cmd_choose.specs.Certifying.{as_certificate, as_proved, certificate_of, certificate_plan, certificate_then, certified_plan, confirmed_plan, proved_of, proved_text}
 use Rattle.vd_cmd_choice.specs.Choice.{Chosen, as_searched, choice_of_then, chosen_by, printed_at, search_then, source_choice_then}
 use Rattle.vd_cmd_choose.specs.Choosing.{certificate_file, choice_answer, chosen_answer}

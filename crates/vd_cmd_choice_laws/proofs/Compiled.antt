@@ -33,7 +33,7 @@ use Rattle.vd_cmd_plan.specs.Numbered.{file_name}
 use Rattle.vd_cmd_plan.specs.Plans.{answer_then}
 use Rattle.vd_cmd_plan.specs.declared.answer.Answer.{Answer}
 use Rattle.vd_cmd_plan.specs.declared.status.Status.TheVariants.{Ended, NoAssignment}
-use Rattle.vd_cmd_frontend.specs.Sources.{HoldsSource}
+use Rattle.vd_cmd_labels.specs.Sources.{HoldsSource}
 use Rattle.vd_cmd_choice.specs.Choice.{assigned_answer, chosen_by, printed_at}
 use Rattle.vd_cmd_compile.specs.Compiling.{compiled_at, compiled_for, host_file, host_files, plan_for}
 use Rattle.vd_cmd_compile.proofs.Front.{code_count}

@@ -6,7 +6,7 @@ use Rattle.vd_constraints.specs.declared.labels.Labels.{Labels}
 use Rattle.vd_anf.specs.Normal.{normal_form}
 use Rattle.vd_cmd_plan.specs.Plans.{Plan, answer_then, ended}
 use Rattle.vd_cmd_plan.specs.declared.answer.Answer.{Answer}
-use Rattle.vd_cmd_frontend.specs.Labelling.{labelled_plan, labels_of, labels_plan, labels_text}
+use Rattle.vd_cmd_labels.specs.Labelling.{labelled_plan, labels_of, labels_plan, labels_text}
 use Rattle.vd_cmd_choice_laws.specs.Laws.{LabelsTell}
 use Rattle.vd_cmd_choice_laws.proofs.Plans.{answered, check_came, ends_as}
 use Rattle.vd_cmd_choice_laws.proofs.Sources.{labels_are, labels_never, made_of, source_came}

@@ -29,10 +29,10 @@ use Rattle.vd_cmd_plan.specs.Refusals.{rule_status}
 use Rattle.vd_cmd_plan.specs.declared.answer.Answer.{Answer}
 use Rattle.vd_cmd_plan.specs.declared.status.Status.{Status}
 use Rattle.vd_cmd_plan.specs.declared.status.Status.TheVariants.{Ended}
-use Rattle.vd_cmd_frontend.specs.Labelling.{as_labels, labels_of}
-use Rattle.vd_cmd_frontend.specs.Outcomes.{LabelOutcomes, TextOutcomes}
-use Rattle.vd_cmd_frontend.specs.Sources.{HoldsSource, IsSourceText, as_resolved, as_source, caused, resolved_of, source_of, source_then, text_status, tree_then}
-use Rattle.vd_cmd_frontend.proofs.Front.{labelled}
+use Rattle.vd_cmd_labels.specs.Labelling.{as_labels, labels_of}
+use Rattle.vd_cmd_labels.specs.Outcomes.{LabelOutcomes, TextOutcomes}
+use Rattle.vd_cmd_labels.specs.Sources.{HoldsSource, IsSourceText, as_resolved, as_source, caused, resolved_of, source_of, source_then, text_status, tree_then}
+use Rattle.vd_cmd_labels.proofs.Front.{labelled}
 use Rattle.vd_cmd_choose.specs.Problems.{IsProblemOf, as_problem, problem_for}
 use Rattle.vd_cmd_choice.specs.Programs.{program_then}
 use Rattle.vd_cmd_rewrite.specs.RunPrograms.{run_form}

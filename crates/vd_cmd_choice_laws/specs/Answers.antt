@@ -19,9 +19,9 @@ use Rattle.vd_execution.specs.Joint.{code_of}
 use Rattle.vd_execution.specs.Text.{text}
 use Rattle.vd_projection.specs.Programs.{joint_of}
 use Rattle.vd_cmd_plan.specs.Plans.{ended}
-use Rattle.vd_cmd_frontend.specs.Labelling.{labels_text}
-use Rattle.vd_cmd_frontend.specs.Outcomes.{LabelOutcomes, TextOutcomes}
-use Rattle.vd_cmd_frontend.specs.Sources.{HoldsSource}
+use Rattle.vd_cmd_labels.specs.Labelling.{labels_text}
+use Rattle.vd_cmd_labels.specs.Outcomes.{LabelOutcomes, TextOutcomes}
+use Rattle.vd_cmd_labels.specs.Sources.{HoldsSource}
 use Rattle.vd_cmd_choose.specs.Certifying.{certify_plan}
 use Rattle.vd_cmd_choice.specs.Outcomes.{CertificateOutcomes}
 use Rattle.vd_cmd_compile.specs.Compiling.{host_file, plan_for}

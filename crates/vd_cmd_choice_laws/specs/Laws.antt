@@ -6,8 +6,8 @@ use Rattle.vd_search_stages.specs.Choices.{ChoiceOutcomes}
 use Rattle.vd_cmd_plan.specs.Deliver.{stored}
 use Rattle.vd_cmd_plan.specs.Plans.{Plan}
 use Rattle.vd_cmd_plan.specs.declared.status.Status.TheVariants.{Ended}
-use Rattle.vd_cmd_frontend.specs.Labelling.{labels_plan}
-use Rattle.vd_cmd_frontend.specs.Outcomes.{LabelOutcomes, TextOutcomes}
+use Rattle.vd_cmd_labels.specs.Labelling.{labels_plan}
+use Rattle.vd_cmd_labels.specs.Outcomes.{LabelOutcomes, TextOutcomes}
 use Rattle.vd_cmd_choose.specs.Certifying.{certify_plan}
 use Rattle.vd_cmd_choose.specs.Choosing.{choose_plan}
 use Rattle.vd_cmd_choice.specs.Searching.{Searched, searched_by}

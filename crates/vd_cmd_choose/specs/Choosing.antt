@@ -9,7 +9,7 @@ use Rattle.vd_cmd_plan.specs.Plans.{Plan, Executes, answer_then, ended}
 use Rattle.vd_cmd_plan.specs.declared.answer.Answer.{Answer}
 use Rattle.vd_cmd_plan.specs.declared.status.Status.{Status}
 use Rattle.vd_cmd_plan.specs.declared.status.Status.TheVariants.{NoAssignment}
-use Rattle.vd_cmd_frontend.specs.Outcomes.{TextOutcomes, LabelOutcomes}
+use Rattle.vd_cmd_labels.specs.Outcomes.{TextOutcomes, LabelOutcomes}
 use Rattle.vd_cmd_choice.specs.Choice.{Chosen, printed_at, source_choice_then}
 use Rattle.vd_cmd_choice.specs.Searching.{Search, SomeSearch}
 

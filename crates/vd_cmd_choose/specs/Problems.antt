@@ -7,8 +7,8 @@ use Rattle.vd_constraints.specs.declared.labels.Labels.{Labels}
 use Rattle.vd_space.specs.declared.problem.Problem.{Problem}
 use Rattle.vd_space.specs.Reading.{problem_of}
 use Rattle.vd_cmd_plan.specs.declared.status.Status.{Status}
-use Rattle.vd_cmd_frontend.specs.Outcomes.{LabelOutcomes}
-use Rattle.vd_cmd_frontend.specs.Labelling.{labels_of}
+use Rattle.vd_cmd_labels.specs.Outcomes.{LabelOutcomes}
+use Rattle.vd_cmd_labels.specs.Labelling.{labels_of}
 
 abbrev pub as_problem : NormalForm → Result Labels Status → Result Problem Status
 as_problem program (Ok labels) = Ok (problem_of program labels)

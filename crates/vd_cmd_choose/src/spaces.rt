@@ -2,7 +2,7 @@
 
 ghost use Rattle.std.specs.Prelude.{◌<◌, IfOk, length};
 ghost use Rattle.vd_constraints.specs.declared.labels.Labels.{Labels as Labellings};
-ghost use Rattle.vd_cmd_frontend.specs.Outcomes.{LabelOutcomes};
+ghost use Rattle.vd_cmd_labels.specs.Outcomes.{LabelOutcomes};
 ghost use Rattle.vd_cost_network.specs.Arcs.{arcs};
 ghost use Rattle.vd_cmd_plan.specs.Plans.{Checks};
 ghost use Rattle.vd_cmd_choose.specs.Problems.{IsProblemOf, problem_for};
@@ -10,7 +10,7 @@ ghost use Rattle.vd_space.specs.Labelled.{HasLabels};
 ghost use Rattle.vd_space.specs.Reading.{problem_of};
 
 use std::alloc::Global;
-use vd_cmd_frontend::least_labels;
+use vd_cmd_labels::least_labels;
 use vd_cmd_plan::Status;
 use vd_core::Program;
 use vd_space_api::Space;

@@ -4,7 +4,7 @@ use Rattle.vd_outside.specs.Files.{Contents}
 use Rattle.vd_search_stages.specs.Choices.{ChoiceOutcomes}
 use Rattle.vd_cmd_plan.specs.Plans.{answer_then}
 use Rattle.vd_cmd_plan.proofs.Front.{Follows}
-use Rattle.vd_cmd_frontend.specs.Outcomes.{TextOutcomes, LabelOutcomes}
+use Rattle.vd_cmd_labels.specs.Outcomes.{TextOutcomes, LabelOutcomes}
 use Rattle.vd_cmd_choice.specs.Outcomes.{CertificateOutcomes}
 use Rattle.vd_cmd_choice.specs.Searching.{Searched, searched_by, sure_search}
 use Rattle.vd_cmd_choice.proofs.Front.{source_choice_follows}

@@ -3,7 +3,7 @@ use Rattle.std.proofs.Common.{true, Result, Ok, Err, IfOk}
 use Rattle.vd_outside.specs.Files.{FilesView, Contents}
 use Rattle.vd_outside.specs.Sink.{SinkView}
 use Rattle.vd_cmd.specs.declared.command.EarlyWords.{EarlyWords}
-use Rattle.vd_cmd_frontend.proofs.Front.{some_labels, some_texts}
+use Rattle.vd_cmd_labels.proofs.Front.{some_labels, some_texts}
 use Rattle.vd_cmd_choice.specs.Searching.{searched_by}
 use Rattle.vd_cmd_choice.proofs.Front.{some_certificates}
 use Rattle.vd_search_stages.proofs.Front.{some_choices}

@@ -10,7 +10,7 @@ use Rattle.vd_outside.specs.Files.{Contents}
 use Rattle.vd_host_text.specs.declared.program.Digest.{Digest}
 use Rattle.vd_cmd_plan.specs.Held.{IsHeld}
 use Rattle.vd_cmd_plan.specs.Numbered.{file_name}
-use Rattle.vd_cmd_frontend.specs.Sources.{IsSourceText}
+use Rattle.vd_cmd_labels.specs.Sources.{IsSourceText}
 use Rattle.vd_projection_files.specs.Stored.{CanBeStored}
 use Rattle.vd_cmd_compile.specs.Compiling.{plan_for}
 use Rattle.vd_cmd_choice.specs.Choice.{IsSelected}

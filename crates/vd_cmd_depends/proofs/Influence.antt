@@ -15,9 +15,9 @@ use Rattle.vd_noninter.specs.Hosts.{members}
 use Rattle.vd_integrity_laws.specs.Influence.{AreInfluences}
 use Rattle.vd_integrity_laws.proofs.Front.{influences_are_enough, influences_are_single, influences_nest, influences_trusted}
 use Rattle.vd_outside.specs.Files.{FilesView}
-use Rattle.vd_cmd_frontend.specs.Labelling.{labels_of}
-use Rattle.vd_cmd_frontend.specs.Outcomes.{LabelOutcomes}
-use Rattle.vd_cmd_frontend.specs.Sources.{HoldsSource}
+use Rattle.vd_cmd_labels.specs.Labelling.{labels_of}
+use Rattle.vd_cmd_labels.specs.Outcomes.{LabelOutcomes}
+use Rattle.vd_cmd_labels.specs.Sources.{HoldsSource}
 use Rattle.vd_cmd_plan.proofs.Front.{answers, any_memory, check_step}
 use Rattle.vd_cmd_plan.specs.Plans.{Checks, Computes, Executes, answer_then, check_then, ended}
 use Rattle.vd_cmd_plan.specs.declared.answer.Answer.{Answer}

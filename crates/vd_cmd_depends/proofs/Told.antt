@@ -21,9 +21,9 @@ use Rattle.vd_noninter_assigned.specs.Assigned.{HearsOnly}
 use Rattle.vd_outside.specs.Files.{FilesView}
 use Rattle.vd_report.specs.Hosts.{host_of}
 use Rattle.vd_report.specs.Lines.{number_field}
-use Rattle.vd_cmd_frontend.specs.Labelling.{labels_of}
-use Rattle.vd_cmd_frontend.specs.Outcomes.{LabelOutcomes}
-use Rattle.vd_cmd_frontend.specs.Sources.{HoldsSource}
+use Rattle.vd_cmd_labels.specs.Labelling.{labels_of}
+use Rattle.vd_cmd_labels.specs.Outcomes.{LabelOutcomes}
+use Rattle.vd_cmd_labels.specs.Sources.{HoldsSource}
 use Rattle.vd_cmd_plan.proofs.Front.{answers, any_memory, check_step}
 use Rattle.vd_cmd_plan.specs.Plans.{Checks, Computes, Executes, answer_then, check_then, ended}
 use Rattle.vd_cmd_plan.specs.declared.answer.Answer.{Answer}

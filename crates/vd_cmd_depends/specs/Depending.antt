@@ -15,9 +15,9 @@ use Rattle.vd_cmd_plan.specs.Plans.{Plan, Executes, check_then, answer_then, end
 use Rattle.vd_cmd_plan.specs.declared.answer.Answer.{Answer}
 use Rattle.vd_cmd_plan.specs.declared.status.Status.{Status}
 use Rattle.vd_cmd_plan.specs.declared.status.Status.TheVariants.{NoHost}
-use Rattle.vd_cmd_frontend.specs.Labelling.{labels_of}
-use Rattle.vd_cmd_frontend.specs.Outcomes.{TextOutcomes, LabelOutcomes}
-use Rattle.vd_cmd_frontend.specs.Sources.{source_then}
+use Rattle.vd_cmd_labels.specs.Labelling.{labels_of}
+use Rattle.vd_cmd_labels.specs.Outcomes.{TextOutcomes, LabelOutcomes}
+use Rattle.vd_cmd_labels.specs.Sources.{source_then}
 use Rattle.vd_cmd_depends.specs.Outcomes.{DependenceOutcomes}
 
 -- the name of a host, behind a space

@@ -19,7 +19,7 @@ use Rattle.vd_cmd_plan.specs.Held.{Finds}
 use Rattle.vd_cmd_plan.specs.declared.answer.Answer.{Answer}
 use Rattle.vd_cmd_plan.specs.declared.status.Status.{Status}
 use Rattle.vd_cmd_plan.specs.declared.status.Status.TheVariants.{Ended}
-use Rattle.vd_cmd_frontend.specs.Sources.{HoldsSource}
+use Rattle.vd_cmd_labels.specs.Sources.{HoldsSource}
 use Rattle.vd_cmd_depends.specs.Depending.{hosts_line}
 use Rattle.vd_space_optimum.specs.Cheapest.{IsAssignment}
 use Rattle.vd_space.specs.Reading.{problem_of}

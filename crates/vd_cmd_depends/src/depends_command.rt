@@ -10,7 +10,7 @@ use crate::line::hosts_text;
 use std::alloc::Global;
 use vd_base::{HostId, HostSet, Names, Text};
 use vd_base_lists::Items;
-use vd_cmd_frontend::{least_labels, load_source};
+use vd_cmd_labels::{least_labels, load_source};
 use vd_cmd_plan::{Answer, Status};
 use vd_cmd_rewrite::run_program;
 use vd_core::Program;

@@ -22,7 +22,7 @@ use Rattle.vd_cmd_plan.specs.Labelled.{labelled_form}
 use Rattle.vd_cmd_plan.specs.Plans.{answer_then}
 use Rattle.vd_cmd_plan.specs.declared.answer.Answer.{Answer}
 use Rattle.vd_cmd_plan.specs.declared.status.Status.TheVariants.{Ended, NoAssignment}
-use Rattle.vd_cmd_frontend.specs.Sources.{HoldsSource}
+use Rattle.vd_cmd_labels.specs.Sources.{HoldsSource}
 use Rattle.vd_cmd_choice.specs.Choice.{assigned_answer, chosen_by}
 use Rattle.vd_cmd_choice_laws.proofs.Front.{source_choice_came, answered, made_of}
 use Rattle.vd_draw_rows.proofs.Front.{add_up}

@@ -10,8 +10,8 @@ use Rattle.vd_draw_picture.specs.Picture.{drawn}
 use Rattle.vd_search_stages.specs.Choices.{ChoiceOutcomes}
 use Rattle.vd_search_stages.specs.declared.optimum.Assignment.{Assignment}
 use Rattle.vd_cmd_plan.specs.declared.status.Status.TheVariants.{Ended}
-use Rattle.vd_cmd_frontend.specs.Outcomes.{LabelOutcomes, TextOutcomes}
-use Rattle.vd_cmd_frontend.specs.Sources.{HoldsSource}
+use Rattle.vd_cmd_labels.specs.Outcomes.{LabelOutcomes, TextOutcomes}
+use Rattle.vd_cmd_labels.specs.Sources.{HoldsSource}
 use Rattle.vd_cmd_choice.specs.Searching.{Searched, searched_by}
 use Rattle.vd_cmd_choice.specs.Outcomes.{CertificateOutcomes}
 use Rattle.vd_cmd_choice.specs.Choice.{IsSelected}

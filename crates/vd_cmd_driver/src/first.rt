@@ -8,7 +8,7 @@ ghost use Rattle.vd_cmd_driver.specs.Reasons.{IsHostAt, IsHostNumbered};
 use std::alloc::Global;
 use vd_base::{Bytes, Names, Texts};
 use vd_cmd::{Command, RunWords, read_words};
-use vd_cmd_frontend::{load_source, names_of_hosts};
+use vd_cmd_labels::{load_source, names_of_hosts};
 use vd_outside::Files;
 
 /// The names of the hosts of a source, where it can be read.

@@ -9,7 +9,7 @@ use Rattle.vd_cmd_plan.specs.Plans.{Checks, Executes, check_then}
 use Rattle.vd_cmd_plan.specs.declared.answer.Answer.{Answer}
 use Rattle.vd_cmd_plan.specs.declared.status.Status.{Status}
 use Rattle.vd_cmd_plan.proofs.Front.{check_step}
-use Rattle.vd_cmd_frontend.specs.Outcomes.{LabelOutcomes}
+use Rattle.vd_cmd_labels.specs.Outcomes.{LabelOutcomes}
 use Rattle.vd_cmd_choice.specs.Searching.{Search}
 use Rattle.vd_report_laws.specs.Outcomes.{ReplayOutcomes}
 use Rattle.vd_cmd_depends.specs.Depending.{as_host}

@@ -10,8 +10,8 @@ use Rattle.vd_search_stages.specs.Choices.{ChoiceOutcomes}
 use Rattle.vd_cmd_plan.specs.Numbered.{file_name}
 use Rattle.vd_cmd_plan.specs.Plans.{Plan, check_then}
 use Rattle.vd_cmd_plan.proofs.Front.{Follows, check_follows, file_follows}
-use Rattle.vd_cmd_frontend.specs.Outcomes.{TextOutcomes, LabelOutcomes}
-use Rattle.vd_cmd_frontend.specs.Inputs.{inputs_then, words_of}
+use Rattle.vd_cmd_labels.specs.Outcomes.{TextOutcomes, LabelOutcomes}
+use Rattle.vd_cmd_labels.specs.Inputs.{inputs_then, words_of}
 use Rattle.vd_cmd_choice.proofs.Front.{program_follows, choice_follows}
 use Rattle.vd_cmd_depends.specs.Depending.{as_host}
 use Rattle.vd_cmd_choice.specs.Outcomes.{CertificateOutcomes}

@@ -9,9 +9,9 @@ use Rattle.vd_report.specs.declared.schedule.Schedule.{Schedule}
 use Rattle.vd_cmd_plan.specs.Plans.{Plan, ExecutesStep}
 use Rattle.vd_cmd_plan.specs.declared.status.Status.{Status}
 use Rattle.vd_cmd_plan.proofs.Front.{step_keeps, step_tells}
-use Rattle.vd_cmd_frontend.specs.Outcomes.{TextOutcomes}
-use Rattle.vd_cmd_frontend.proofs.Front.{some_texts}
-use Rattle.vd_cmd_frontend.specs.Inputs.{inputs_then, HoldsInputs}
+use Rattle.vd_cmd_labels.specs.Outcomes.{TextOutcomes}
+use Rattle.vd_cmd_labels.proofs.Front.{some_texts}
+use Rattle.vd_cmd_labels.specs.Inputs.{inputs_then, HoldsInputs}
 use Rattle.vd_report_laws.specs.Outcomes.{ReplayOutcomes}
 use Rattle.vd_report_laws.proofs.Front.{some_outcomes}
 use Rattle.vd_cmd_inputs.specs.declared.asked.Asked.{Asked}

@@ -11,7 +11,7 @@ use crate::schedules::load_schedule;
 use std::alloc::Global;
 use vd_base::{Names, inputs_fit};
 use vd_cmd::ReplayWords;
-use vd_cmd_frontend::load_inputs;
+use vd_cmd_labels::load_inputs;
 use vd_cmd_plan::Status;
 use vd_outside::Files;
 

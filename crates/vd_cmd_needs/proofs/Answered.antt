@@ -9,7 +9,7 @@ use Rattle.vd_cmd_plan.specs.Plans.{Executes}
 use Rattle.vd_cmd_plan.specs.declared.answer.Answer.{Answer}
 use Rattle.vd_cmd_plan.specs.declared.status.Status.{Status}
 use Rattle.vd_cmd_plan.proofs.Front.{load_step}
-use Rattle.vd_cmd_frontend.specs.Outcomes.{TextOutcomes, LabelOutcomes}
+use Rattle.vd_cmd_labels.specs.Outcomes.{TextOutcomes, LabelOutcomes}
 use Rattle.vd_cmd_choice.specs.Searching.{Search, GaveUp, searched_by}
 use Rattle.vd_cmd_needs.specs.Needing.{ExecutesBytes, ExecutesHost, ExecutesText, bytes_plan, host_plan, is_program_text, needs_plan, text_plan}
 use Rattle.vd_cmd_programs.specs.Programs.{ProgramOutcomes}

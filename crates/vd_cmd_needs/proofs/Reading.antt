@@ -5,9 +5,9 @@ use Rattle.vd_core.specs.declared.source.Source.{Source}
 use Rattle.vd_parser.specs.declared.fault.ParseFault.TheVariants as parse_fault
 use Rattle.vd_cmd_plan.specs.Plans.{Checks}
 use Rattle.vd_cmd_plan.specs.declared.status.Status.TheVariants.{TooLong}
-use Rattle.vd_cmd_frontend.specs.Outcomes.{TextOutcomes}
-use Rattle.vd_cmd_frontend.specs.Sources.{source_of}
-use Rattle.vd_cmd_frontend.proofs.Front.{parsed}
+use Rattle.vd_cmd_labels.specs.Outcomes.{TextOutcomes}
+use Rattle.vd_cmd_labels.specs.Sources.{source_of}
+use Rattle.vd_cmd_labels.proofs.Front.{parsed}
 
 -- it is no source
 pub too_long : (texts : TextOutcomes) (name bytes copy : List ℕ) → most_source_bytes < length bytes → copy ≡ name → Checks {T = Source} (source_of texts name bytes) (Err (TooLong copy most_source_bytes))

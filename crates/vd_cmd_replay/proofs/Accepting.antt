@@ -30,7 +30,7 @@ use Rattle.vd_search_stages.specs.Choices.{ChoiceOutcomes, IsChosen, needed}
 use Rattle.vd_search_stages.specs.Optimum.{assigned, assignment_of}
 use Rattle.vd_search_stages.specs.declared.optimum.Assignment.{Assignment}
 use Rattle.vd_search_stages.proofs.Front.{chosen_once}
-use Rattle.vd_cmd_frontend.specs.Labelling.{as_labels, labels_of}
+use Rattle.vd_cmd_labels.specs.Labelling.{as_labels, labels_of}
 use Rattle.vd_cmd_choice.specs.Choice.{Chosen, as_searched, chosen_by, search_then}
 use Rattle.vd_cmd_choice.specs.Searching.{sure_search}
 use Rattle.vd_cmd_plan.specs.Labelled.{labelled_form}

@@ -8,7 +8,7 @@ use Rattle.vd_cmd.specs.declared.command.ReplayWords.{ReplayWords}
 use Rattle.vd_cmd_plan.specs.declared.answer.Answer.{Answer}
 use Rattle.vd_cmd_plan.specs.declared.status.Status.{Status}
 use Rattle.vd_cmd_plan.proofs.Front.{step_keeps, step_tells}
-use Rattle.vd_cmd_frontend.proofs.Front.{some_labels, some_texts}
+use Rattle.vd_cmd_labels.proofs.Front.{some_labels, some_texts}
 use Rattle.vd_cmd_choice.specs.Programs.{HoldsProgram, LoadsProgram, program_then}
 use Rattle.vd_base.specs.Words.{InputsAreWords}
 use Rattle.vd_cmd_inputs.specs.declared.asked.Asked.{Asked}

@@ -28,11 +28,11 @@ use Rattle.vd_cmd_plan.specs.Numbered.{file_name}
 use Rattle.vd_cmd_plan.specs.Plans.{Plan, answer_then, check_then, ended, file_then}
 use Rattle.vd_cmd_plan.specs.declared.status.Status.{Status}
 use Rattle.vd_cmd_plan.specs.declared.status.Status.TheVariants.{Ended}
-use Rattle.vd_cmd_frontend.specs.Outcomes.{IsInputs, LabelOutcomes, TextOutcomes}
-use Rattle.vd_cmd_frontend.specs.Sources.{HoldsSource, IsSourceText, as_resolved, as_source, resolved_of, source_of}
-use Rattle.vd_cmd_frontend.proofs.Front.{solution_is, solution_of}
+use Rattle.vd_cmd_labels.specs.Outcomes.{IsInputs, LabelOutcomes, TextOutcomes}
+use Rattle.vd_cmd_labels.specs.Sources.{HoldsSource, IsSourceText, as_resolved, as_source, resolved_of, source_of}
+use Rattle.vd_cmd_labels.proofs.Front.{solution_is, solution_of}
 use Rattle.vd_cmd_choice.specs.Programs.{program_then}
-use Rattle.vd_cmd_frontend.specs.Inputs.{HoldsInputs, as_inputs, inputs_then, words_of}
+use Rattle.vd_cmd_labels.specs.Inputs.{HoldsInputs, as_inputs, inputs_then, words_of}
 use Rattle.vd_report_laws.specs.Outcomes.{ReplayOutcomes}
 use Rattle.vd_report_laws.proofs.Front.{outcomes_are_single}
 use Rattle.vd_cmd_inputs.specs.declared.asked.Asked.{Asked}

@@ -9,7 +9,7 @@ use Rattle.vd_space.specs.Reading.{problem_of}
 use Rattle.vd_space.specs.Usual.{firm}
 use Rattle.vd_search_stages.specs.Choices.{ChoiceOutcomes}
 use Rattle.vd_search_stages.specs.declared.optimum.Assignment.{Assignment}
-use Rattle.vd_cmd_frontend.specs.Outcomes.{TextOutcomes, LabelOutcomes}
+use Rattle.vd_cmd_labels.specs.Outcomes.{TextOutcomes, LabelOutcomes}
 use Rattle.vd_cmd_choice.specs.Searching.{sure_search}
 use Rattle.vd_cmd_plan.specs.declared.status.Status.TheVariants.{Ended}
 use Rattle.vd_cmd_choice.specs.Choice.{IsSelected}

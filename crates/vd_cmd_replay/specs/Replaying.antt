@@ -16,7 +16,7 @@ use Rattle.vd_cmd_plan.specs.Labelled.{LabelledForm, labelled_form}
 use Rattle.vd_cmd_plan.specs.Plans.{Plan, Executes, check_then, answer_then, ended}
 use Rattle.vd_cmd_plan.specs.declared.answer.Answer.{Answer}
 use Rattle.vd_cmd_plan.specs.declared.status.Status.{Status}
-use Rattle.vd_cmd_frontend.specs.Outcomes.{TextOutcomes, LabelOutcomes}
+use Rattle.vd_cmd_labels.specs.Outcomes.{TextOutcomes, LabelOutcomes}
 use Rattle.vd_cmd_choice.specs.Programs.{program_then}
 use Rattle.vd_cmd_choice.specs.Searching.{Search, SomeSearch}
 use Rattle.vd_cmd_choice.specs.Choice.{choice_of_then, no_list}

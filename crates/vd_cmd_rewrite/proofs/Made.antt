@@ -16,7 +16,7 @@ use Rattle.vd_mux.proofs.Front.{turned_well_made}
 use Rattle.vd_core.specs.Numbers.{NumbersFit}
 use Rattle.vd_long.specs.Marks.{long_marks, lengthen_of}
 use Rattle.vd_long.proofs.Front.{lengthened_well_made}
-use Rattle.vd_cmd_frontend.specs.Outcomes.{LabelOutcomes}
+use Rattle.vd_cmd_labels.specs.Outcomes.{LabelOutcomes}
 use Rattle.vd_cmd_rewrite.specs.RunPrograms.{Rewriting, IsLabelledOr, New, Old, Rewrites, Under, Without, Plain, IsRunForm, IsRunProgram, TellsAs, rewritten_by, run_form}
 use Rattle.vd_cmd_rewrite.proofs.Once.{rewritten_once, rewritten_is}
 use Rattle.vd_cmd_rewrite.proofs.Told.{run_hosts, run_tells}

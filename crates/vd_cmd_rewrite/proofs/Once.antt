@@ -8,9 +8,9 @@ use Rattle.vd_constraints.specs.Satisfies.{IsLeast}
 use Rattle.vd_constraints.specs.Outcomes.{IsLabelled}
 use Rattle.vd_constraints.specs.declared.labels.Labels.{Labels}
 use Rattle.vd_cmd_plan.specs.declared.status.Status.{Status}
-use Rattle.vd_cmd_frontend.specs.Outcomes.{LabelOutcomes}
-use Rattle.vd_cmd_frontend.specs.Labelling.{as_labels, labels_of}
-use Rattle.vd_cmd_frontend.proofs.Front.{labelled}
+use Rattle.vd_cmd_labels.specs.Outcomes.{LabelOutcomes}
+use Rattle.vd_cmd_labels.specs.Labelling.{as_labels, labels_of}
+use Rattle.vd_cmd_labels.proofs.Front.{labelled}
 use Rattle.vd_cmd_rewrite.specs.RunPrograms.{Rewriting, HasNoLabels, IsLabelledOr, New, Old, Rewrites, Under, Without, Plain, if_labelled, under, rewritten_by}
 
 module _ (least : LabelOutcomes) where

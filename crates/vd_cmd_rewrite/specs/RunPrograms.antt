@@ -13,8 +13,8 @@ use Rattle.vd_mux.specs.Hidden.{turn_of}
 use Rattle.vd_long.specs.Marks.{lengthen_of}
 use Rattle.vd_base.specs.Words.{InputsAreWords}
 use Rattle.vd_cmd_plan.specs.declared.status.Status.{Status}
-use Rattle.vd_cmd_frontend.specs.Outcomes.{LabelOutcomes}
-use Rattle.vd_cmd_frontend.specs.Labelling.{labels_of}
+use Rattle.vd_cmd_labels.specs.Outcomes.{LabelOutcomes}
+use Rattle.vd_cmd_labels.specs.Labelling.{labels_of}
 
 -- a rewriting of a program under labels of its slots
 abbrev pub Rewriting : Type 0

@@ -12,8 +12,8 @@ use Rattle.vd_parser.specs.Outcomes.{IsParse}
 use Rattle.vd_parser.specs.declared.fault.ParseFault.{ParseFault}
 use Rattle.vd_cmd_plan.specs.declared.status.Status.{Status}
 use Rattle.vd_cmd_plan.specs.declared.status.Status.TheVariants.{Ended}
-use Rattle.vd_cmd_frontend.proofs.Front.{some_labels, some_texts}
-use Rattle.vd_cmd_frontend.specs.Sources.{HoldsSource}
+use Rattle.vd_cmd_labels.proofs.Front.{some_labels, some_texts}
+use Rattle.vd_cmd_labels.specs.Sources.{HoldsSource}
 use Rattle.vd_search_stages.proofs.Front.{some_choices}
 use Rattle.vd_cmd_choice.proofs.Front.{some_certificates}
 use Rattle.vd_cmd_choice.specs.Searching.{searched_by}

@@ -5,7 +5,7 @@ use Rattle.vd_core.specs.declared.source.Source.{Source}
 use Rattle.vd_semantics.specs.SourceMeaning.{host_names}
 use Rattle.vd_outside.specs.Files.{Contents, FilesView}
 use Rattle.vd_cmd_compile.specs.Compiling.{ExecutesCompile}
-use Rattle.vd_cmd_frontend.specs.Sources.{HoldsSource}
+use Rattle.vd_cmd_labels.specs.Sources.{HoldsSource}
 use Rattle.vd_cmd_plan.specs.declared.answer.Answer.{Answer}
 use Rattle.vd_cmd_plan.specs.declared.status.Status.{Status}
 use Rattle.vd_cmd_run.specs.declared.compiled.Compiled.{Compiled}

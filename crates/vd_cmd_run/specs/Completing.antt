@@ -5,8 +5,8 @@ use Rattle.vd_host_children.specs.Told.{AreHosts, AreNext, TellsEach}
 use Rattle.vd_cmd.specs.declared.command.RunWords.{RunWords}
 use Rattle.vd_cmd_compile.specs.Compiling.{compile_plan}
 use Rattle.vd_core.specs.declared.source.Source.{Source}
-use Rattle.vd_cmd_frontend.specs.Outcomes.{LabelOutcomes, TextOutcomes}
-use Rattle.vd_cmd_frontend.specs.Sources.{HoldsSource}
+use Rattle.vd_cmd_labels.specs.Outcomes.{LabelOutcomes, TextOutcomes}
+use Rattle.vd_cmd_labels.specs.Sources.{HoldsSource}
 use Rattle.vd_outside.specs.Causes.{Rose}
 use Rattle.vd_outside.specs.Spawner.{SpawnerView}
 use Rattle.vd_outside.specs.declared.child.Child.{Child}

@@ -3,7 +3,7 @@ use Rattle.std.specs.Prelude.{◌≡◌, ℕ, true, IsTrue, List, length, OnOk, 
 use Rattle.vd_base.specs.Limits.{most_search_budget}
 use Rattle.vd_cmd.specs.declared.command.RunWords.{RunWords}
 use Rattle.vd_cmd_compile.specs.Compiling.{compile_plan}
-use Rattle.vd_cmd_frontend.specs.Outcomes.{LabelOutcomes, TextOutcomes}
+use Rattle.vd_cmd_labels.specs.Outcomes.{LabelOutcomes, TextOutcomes}
 use Rattle.vd_outside.specs.Files.{FilesView}
 use Rattle.vd_cmd_plan.specs.Labelled.{LabelledForm}
 use Rattle.vd_cmd_plan.specs.Plans.{Executes}

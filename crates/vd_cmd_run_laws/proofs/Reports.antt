@@ -22,7 +22,7 @@ use Rattle.vd_host_session.specs.declared.fault.HostFault.{HostFault}
 use Rattle.vd_host_children.specs.Lines.{ended, listening}
 use Rattle.vd_host_children.specs.Told.{AreHosts, IsHost}
 use Rattle.vd_cmd.specs.declared.command.RunWords.{RunWords}
-use Rattle.vd_cmd_frontend.specs.Sources.{HoldsSource}
+use Rattle.vd_cmd_labels.specs.Sources.{HoldsSource}
 use Rattle.vd_cmd_plan.specs.declared.status.Status.TheVariants.{Ended}
 use Rattle.vd_cmd_run.specs.CommandLines.{host_words}
 use Rattle.vd_cmd_run.specs.EndedLines.{ended_lines}

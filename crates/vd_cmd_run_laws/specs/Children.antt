@@ -12,7 +12,7 @@ use Rattle.vd_outside.specs.declared.child.Child.{Child}
 use Rattle.vd_engine.specs.declared.engine.Ended.{Ended as Done}
 use Rattle.vd_host_children.specs.Told.{AreNext, TellsEach}
 use Rattle.vd_cmd.specs.declared.command.RunWords.{RunWords}
-use Rattle.vd_cmd_frontend.specs.Sources.{HoldsSource}
+use Rattle.vd_cmd_labels.specs.Sources.{HoldsSource}
 use Rattle.vd_cmd_plan.specs.declared.status.Status.TheVariants.{Ended}
 use Rattle.vd_cmd_run.specs.EndedLines.{ended_lines}
 use Rattle.vd_cmd_run.specs.Running.{Runs}

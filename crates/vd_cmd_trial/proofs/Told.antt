@@ -40,7 +40,7 @@ use Rattle.vd_cmd_plan.specs.Plans.{Checks}
 use Rattle.vd_cmd_plan.specs.declared.answer.Answer.{Answer}
 use Rattle.vd_cmd_plan.specs.declared.status.Status.{Status}
 use Rattle.vd_cmd_plan.specs.declared.status.Status.TheVariants.{Ended, NoAssignment}
-use Rattle.vd_cmd_frontend.specs.Sources.{as_resolved, resolved_of}
+use Rattle.vd_cmd_labels.specs.Sources.{as_resolved, resolved_of}
 use Rattle.vd_cmd_choice.specs.Choice.{IsSelected, no_list}
 use Rattle.vd_cmd_inputs.specs.declared.asked.Asked.{Asked}
 use Rattle.vd_cmd_replay.specs.Telling.{IsReport}

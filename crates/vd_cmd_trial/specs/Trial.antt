@@ -22,8 +22,8 @@ use Rattle.vd_cmd_plan.specs.Labelled.{LabelledForm, labelled_form}
 use Rattle.vd_cmd_plan.specs.Plans.{Plan, Executes, check_then, answer_then, ended}
 use Rattle.vd_cmd_plan.specs.declared.answer.Answer.{Answer}
 use Rattle.vd_cmd_plan.specs.declared.status.Status.{Status}
-use Rattle.vd_cmd_frontend.specs.Outcomes.{TextOutcomes, LabelOutcomes}
-use Rattle.vd_cmd_frontend.specs.Sources.{source_of, resolved_of}
+use Rattle.vd_cmd_labels.specs.Outcomes.{TextOutcomes, LabelOutcomes}
+use Rattle.vd_cmd_labels.specs.Sources.{source_of, resolved_of}
 use Rattle.vd_cmd_choice.specs.Searching.{Search, SomeSearch}
 use Rattle.vd_cmd_choice.specs.Choice.{choice_of_then, no_list}
 use Rattle.vd_cmd_inputs.specs.declared.asked.Asked.{Asked}

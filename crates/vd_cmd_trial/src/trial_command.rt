@@ -17,7 +17,7 @@ use std::alloc::{AllocError, Global};
 use vd_base::Bytes;
 use vd_base::limits::SEARCH_BUDGET;
 use vd_cmd_choice::{choice_of, no_assignment};
-use vd_cmd_frontend::{read_source, resolve_source};
+use vd_cmd_labels::{read_source, resolve_source};
 use vd_cmd_plan::{Answer, Status};
 use vd_cmd_replay::replay_at;
 use vd_core::Program;

@@ -11,8 +11,8 @@ use Rattle.vd_resolve.specs.Limits.{limits_check, resolution}
 use Rattle.vd_parser.proofs.Front.{parses_once}
 use Rattle.vd_gen.specs.Sizes.{most_coordinates}
 use Rattle.vd_gen.specs.Source.{generated}
-use Rattle.vd_cmd_frontend.specs.Outcomes.{TextOutcomes}
-use Rattle.vd_cmd_frontend.specs.Sources.{as_source, as_resolved}
+use Rattle.vd_cmd_labels.specs.Outcomes.{TextOutcomes}
+use Rattle.vd_cmd_labels.specs.Sources.{as_source, as_resolved}
 use Rattle.vd_gen_laws.specs.Claims.{GivesSource, IsRead}
 use Rattle.vd_gen_laws.proofs.Whole.{generated_is_source}
 

@@ -5,8 +5,8 @@ use Rattle.vd_core.specs.Facts.{weight_sum}
 use Rattle.vd_anf.specs.Normal.{normal_form}
 use Rattle.vd_gen.specs.Sizes.{most_coordinates}
 use Rattle.vd_gen.specs.Source.{generated}
-use Rattle.vd_cmd_frontend.specs.Outcomes.{TextOutcomes}
-use Rattle.vd_cmd_frontend.specs.Sources.{IsSourceText, source_of, resolved_of}
+use Rattle.vd_cmd_labels.specs.Outcomes.{TextOutcomes}
+use Rattle.vd_cmd_labels.specs.Sources.{IsSourceText, source_of, resolved_of}
 
 -- for every number of coordinates that a generated source may have
 abbrev pub AtEachSize : (ℕ → Type 0) → Type 0

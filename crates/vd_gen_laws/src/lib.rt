@@ -2,7 +2,7 @@
 #![tactic(auto)]
 
 ghost use Rattle.std.specs.Prelude.{ℕ, List};
-ghost use Rattle.vd_cmd_frontend.specs.Outcomes.{TextOutcomes};
+ghost use Rattle.vd_cmd_labels.specs.Outcomes.{TextOutcomes};
 ghost use Rattle.vd_gen_laws.specs.Claims.{AtEachSize, GivesSource, IsRead};
 
 /// The text that is generated for 1 to 100 coordinates is that of a source: it has tokens and one tree, no bracket is too deep, and

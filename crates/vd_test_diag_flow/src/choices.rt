@@ -4,7 +4,7 @@ use crate::programs::program_of;
 use anyhow::anyhow;
 use std::alloc::Global;
 use vd_base::Bytes;
-use vd_cmd_frontend::least_labels;
+use vd_cmd_labels::least_labels;
 use vd_core::Program;
 use vd_diag::{Remark, tell};
 use vd_diag_choice::{no_assignment_remark, search_sentence, space_for};

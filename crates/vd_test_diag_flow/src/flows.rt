@@ -4,7 +4,7 @@ use crate::programs::program_of;
 use anyhow::anyhow;
 use std::alloc::Global;
 use vd_base::Bytes;
-use vd_cmd_frontend::least_labels;
+use vd_cmd_labels::least_labels;
 use vd_cmd_plan::{FlowFault, Status};
 use vd_diag::tell;
 use vd_diag_flow::flow_remark;

@@ -4,7 +4,7 @@ use anyhow::bail;
 use std::alloc::Global;
 use vd_base::limits;
 use vd_cmd_choose::least_space;
-use vd_cmd_frontend::{read_source, resolve_source};
+use vd_cmd_labels::{read_source, resolve_source};
 use vd_cmd_rewrite::run_program;
 use vd_resolve::Resolved;
 use vd_space_api::Space;

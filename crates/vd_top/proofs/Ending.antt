@@ -13,7 +13,7 @@ use Rattle.vd_cmd_plan.specs.Runs.{Finishes}
 use Rattle.vd_cmd_plan.specs.declared.answer.Answer.{Answer}
 use Rattle.vd_cmd_plan.specs.declared.status.Status.{Status}
 use Rattle.vd_cmd_plan.proofs.Front.{completes}
-use Rattle.vd_cmd_frontend.proofs.Front.{some_texts}
+use Rattle.vd_cmd_labels.proofs.Front.{some_texts}
 use Rattle.vd_cmd_choice.specs.Searching.{sure_search}
 use Rattle.vd_cmd_choice.proofs.Front.{some_certificates}
 use Rattle.vd_search_stages.proofs.Front.{some_choices}

@@ -10,7 +10,7 @@ use Rattle.vd_cmd_plan.specs.Plans.{IsProper, IsGiven}
 use Rattle.vd_cmd_plan.specs.declared.status.Status.{Status}
 use Rattle.vd_cmd_plan.specs.declared.answer.Answer.{Answer}
 use Rattle.vd_cmd_plan.proofs.Front.{Follows}
-use Rattle.vd_cmd_frontend.proofs.Front.{some_texts, some_labels}
+use Rattle.vd_cmd_labels.proofs.Front.{some_texts, some_labels}
 use Rattle.vd_search_stages.proofs.Front.{some_choices}
 use Rattle.vd_cmd_choice.specs.Searching.{Searched, sure_search}
 use Rattle.vd_cmd_choice.proofs.Front.{some_certificates}

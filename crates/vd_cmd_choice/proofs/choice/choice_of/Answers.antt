@@ -1,6 +1,6 @@
 use Rattle.std.proofs.Common.{Ok, Err}
 use Rattle.std.proofs.lemmas.Result.{err_from_is_err_and}
-use Rattle.vd_cmd_frontend.specs.Labelling.{labels_of}
+use Rattle.vd_cmd_labels.specs.Labelling.{labels_of}
 use Rattle.vd_cmd_plan.specs.Plans.{check_then}
 use Rattle.vd_cmd_plan.proofs.Front.{both_steps, check_step, first_step}
 use Rattle.vd_cmd_choice.specs.Choice.{chosen_in, search_then}

@@ -1,4 +1,0 @@
--- The lemmas that other crates cite.
-pub use Rattle.vd_cmd_frontend.proofs.Reading.{parsed, some_labels, some_texts}
-pub use Rattle.vd_cmd_frontend.proofs.Labelled.{labelled, solution_is, solution_of}
-pub use Rattle.vd_cmd_frontend.proofs.HeldTexts.{meets}

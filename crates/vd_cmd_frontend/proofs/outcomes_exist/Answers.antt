@@ -1,5 +1,0 @@
-use Rattle.vd_cmd_frontend.proofs.Reading.{some_texts, some_labels}
-use Rattle.vd_cmd_frontend.proofs.outcomes_exist.Goals as goal
-
-pub returns : goal.returns
-returns c = record { texts = some_texts; labels = some_labels }

@@ -1,0 +1,20 @@
+//! The commands of the front end: a source is fetched, read and resolved, and then run in clear or labelled.
+#![tactic(auto)]
+
+ghost use Rattle.vd_cmd_labels.specs.Outcomes.{TextOutcomes, LabelOutcomes};
+
+mod clear_command;
+mod inputs;
+mod labels_command;
+mod sources;
+
+pub use clear_command::clear;
+pub use inputs::load_inputs;
+pub use labels_command::{labels, least_labels};
+pub use sources::{load_source, names_of_hosts, read_source, resolve_source};
+
+/// Each text and each system of flow rules has an outcome, so there are functions for the clauses to speak of.
+pub fn outcomes_exist()
+    ensures texts { TextOutcomes }
+    ensures labels { LabelOutcomes }
+{}
