@@ -23,7 +23,7 @@ use Rattle.vd_cmd_deal_keyed.specs.KeyDealing.{key_answer, keyed_deal_text}
 use Rattle.vd_cmd_deal_keyed.proofs.Front.{are_secrets}
 use Rattle.vd_report_laws.specs.Outcomes.{ReplayOutcomes}
 use Rattle.vd_report_laws.proofs.Front.{judged_once}
-use Rattle.vd_cmd_inputs.specs.Deals.{HoldDeals, HoldsDeal, as_consistent}
+use Rattle.vd_cmd_files.specs.Deals.{HoldDeals, HoldsDeal, as_consistent}
 use Rattle.vd_cmd_choice_laws.proofs.Front.{standing}
 use Rattle.vd_cmd_deal_laws.specs.Dealt.{AreTaken}
 use Rattle.vd_cmd_deal_laws.specs.KeyedDealt.{HoldsKeyed, KeyedDealsTell}

@@ -22,7 +22,7 @@ use Rattle.vd_cmd_plan.specs.Plans.{Plan}
 use Rattle.vd_cmd_deal.specs.Dealing.{deal_answer}
 use Rattle.vd_report_laws.specs.Outcomes.{ReplayOutcomes}
 use Rattle.vd_report_laws.proofs.Front.{judged_once, outcomes_are_single}
-use Rattle.vd_cmd_inputs.specs.Deals.{HoldDeals, HoldsDeal, as_deal, deal_of, deal_then, deals_from, as_consistent}
+use Rattle.vd_cmd_files.specs.Deals.{HoldDeals, HoldsDeal, as_deal, deal_of, deal_then, deals_from, as_consistent}
 use Rattle.vd_cmd_choice_laws.proofs.Front.{Leads, held_leads, files_from, standing}
 use Rattle.vd_cmd_deal_laws.specs.Dealt.{AreTaken, DealsTell}
 use Rattle.vd_cmd_deal_laws.proofs.Short.{texts_are_short}

@@ -11,7 +11,7 @@ use Rattle.vd_cmd_plan.specs.Deliver.{stored}
 use Rattle.vd_cmd_plan.specs.Plans.{Plan}
 use Rattle.vd_cmd_deal.specs.Dealing.{deal_answer}
 use Rattle.vd_report_laws.specs.Outcomes.{ReplayOutcomes}
-use Rattle.vd_cmd_inputs.specs.Deals.{HoldDeals, deals_then, as_consistent}
+use Rattle.vd_cmd_files.specs.Deals.{HoldDeals, deals_then, as_consistent}
 
 -- whatever a command does with the deals of hosts with these names, it does with these deals
 abbrev pub AreTaken : (prefix : List ℕ) → (names : List (List ℕ)) → Contents → List Deal → Type 0

@@ -15,7 +15,7 @@ use Rattle.vd_cmd_plan.specs.declared.status.Status.{Status}
 use Rattle.vd_cmd_plan.specs.declared.status.Status.TheVariants.{Ended, NoAssignment}
 use Rattle.vd_cmd_plan.proofs.Front.{answers, check_step}
 use Rattle.vd_report_laws.specs.Outcomes.{ReplayOutcomes}
-use Rattle.vd_cmd_inputs.specs.Deals.{as_consistent}
+use Rattle.vd_cmd_files.specs.Deals.{as_consistent}
 use Rattle.vd_cmd_excuse.specs.declared.runs.Runs.{Runs}
 use Rattle.vd_cmd_excuse.specs.Excusing.{ExecutesExcused, as_free, choice_plan, commitment_in, excuse_answer, excused_for, excused_plan, ExecutesChoice, ExecutesHost}
 use Rattle.vd_cmd_excuse.specs.Telling.{TellsAt}

@@ -12,7 +12,7 @@ use Rattle.vd_cmd_labels.specs.Outcomes.{TextOutcomes}
 use Rattle.vd_cmd_labels.proofs.Front.{some_texts}
 use Rattle.vd_cmd_labels.specs.Inputs.{inputs_then, HoldsInputs}
 use Rattle.vd_report_laws.specs.Outcomes.{ReplayOutcomes}
-use Rattle.vd_cmd_inputs.specs.Deals.{HoldDeals, deals_then}
+use Rattle.vd_cmd_files.specs.Deals.{HoldDeals, deals_then}
 use Rattle.vd_base.specs.Words.{InputsAreWords}
 use Rattle.vd_cmd_excuse.specs.declared.runs.Runs.{Runs}
 use Rattle.vd_cmd_excuse.specs.Runs.{AreRead, HoldRuns, runs_of, runs_then}

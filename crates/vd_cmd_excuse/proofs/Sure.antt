@@ -17,7 +17,7 @@ use Rattle.vd_cmd_depends.specs.Depending.{as_host}
 use Rattle.vd_cmd_choice.specs.Outcomes.{CertificateOutcomes}
 use Rattle.vd_cmd_choice.specs.Searching.{Searched, searched_by, sure_search}
 use Rattle.vd_report_laws.specs.Outcomes.{ReplayOutcomes}
-use Rattle.vd_cmd_inputs.specs.Deals.{deal_of, deal_then, deals_from}
+use Rattle.vd_cmd_files.specs.Deals.{deal_of, deal_then, deals_from}
 use Rattle.vd_cmd_excuse.specs.declared.runs.Runs.{Runs}
 use Rattle.vd_cmd_excuse.specs.Runs.{runs_of}
 use Rattle.vd_cmd_excuse.specs.Excusing.{as_two, choice_plan, excuse_plan, host_plan, program_plan, runs_plan}

@@ -24,7 +24,7 @@ use Rattle.vd_cmd_depends.specs.Depending.{as_host}
 use Rattle.vd_cmd_choice.specs.Searching.{Search, SomeSearch}
 use Rattle.vd_cmd_choice.specs.Choice.{choice_of_then, no_list}
 use Rattle.vd_report_laws.specs.Outcomes.{ReplayOutcomes}
-use Rattle.vd_cmd_inputs.specs.Deals.{as_consistent}
+use Rattle.vd_cmd_files.specs.Deals.{as_consistent}
 use Rattle.vd_views_programs.specs.Explained.{plan_of}
 use Rattle.vd_equivocation_deals.specs.Excuses.{excuse_files}
 use Rattle.vd_equivocation.specs.declared.fault.ViewFault.{ViewFault}

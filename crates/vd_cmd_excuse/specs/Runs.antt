@@ -12,7 +12,7 @@ use Rattle.vd_cmd_plan.specs.declared.status.Status.{Status}
 use Rattle.vd_cmd_labels.specs.Outcomes.{TextOutcomes}
 use Rattle.vd_cmd_labels.specs.Inputs.{inputs_then, HoldsInputs}
 use Rattle.vd_report_laws.specs.Outcomes.{ReplayOutcomes}
-use Rattle.vd_cmd_inputs.specs.Deals.{deals_then, HoldDeals}
+use Rattle.vd_cmd_files.specs.Deals.{deals_then, HoldDeals}
 use Rattle.vd_base.specs.Words.{InputsAreWords}
 use Rattle.vd_cmd_excuse.specs.declared.runs.Runs.{Runs}
 

@@ -20,7 +20,7 @@ use vd_base::HostId;
 use vd_cmd::ExcuseWords;
 use vd_cmd_choice::{choice_of, load_program, no_assignment};
 use vd_cmd_depends::host_named;
-use vd_cmd_inputs::expect_consistent;
+use vd_cmd_files::expect_consistent;
 use vd_cmd_plan::{Answer, Status};
 use vd_core::Program;
 use vd_outside::Files;

@@ -8,7 +8,7 @@ ghost use Rattle.vd_cmd_excuse.specs.Runs.{AreRead, HoldRuns, LoadsRuns};
 use std::alloc::Global;
 use vd_base::{Inputs, Names, inputs_fit};
 use vd_cmd::ExcuseWords;
-use vd_cmd_inputs::load_deals;
+use vd_cmd_files::load_deals;
 use vd_cmd_labels::load_inputs;
 use vd_cmd_plan::Status;
 use vd_deal_items::Deals;

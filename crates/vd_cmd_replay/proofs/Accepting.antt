@@ -37,8 +37,8 @@ use Rattle.vd_cmd_plan.specs.Labelled.{labelled_form}
 use Rattle.vd_cmd_plan.specs.Plans.{Plan}
 use Rattle.vd_report_laws.proofs.Front.{judged_once}
 use Rattle.vd_cmd_replay.specs.Accepting.{EndsWell, IsAccepted}
-use Rattle.vd_cmd_inputs.specs.Asking.{HoldAsked}
-use Rattle.vd_cmd_inputs.specs.Deals.{as_consistent}
+use Rattle.vd_cmd_files.specs.Asking.{HoldAsked}
+use Rattle.vd_cmd_files.specs.Deals.{as_consistent}
 use Rattle.vd_cmd_replay.specs.Replaying.{asked_plan, assignment_plan, choice_plan, program_plan, report_for}
 use Rattle.vd_cmd_replay.proofs.Steps.{Ends, answer_ends, asked_ends, check_ends, labels_for, labels_with_these, program_ends}
 

@@ -11,8 +11,8 @@ use Rattle.vd_cmd_plan.proofs.Front.{step_keeps, step_tells}
 use Rattle.vd_cmd_labels.proofs.Front.{some_labels, some_texts}
 use Rattle.vd_cmd_choice.specs.Programs.{HoldsProgram, LoadsProgram, program_then}
 use Rattle.vd_base.specs.Words.{InputsAreWords}
-use Rattle.vd_cmd_inputs.specs.declared.asked.Asked.{Asked}
-use Rattle.vd_cmd_inputs.specs.Asking.{HoldAsked}
+use Rattle.vd_cmd_files.specs.declared.asked.Asked.{Asked}
+use Rattle.vd_cmd_files.specs.Asking.{HoldAsked}
 use Rattle.vd_cmd_replay.specs.Telling.{IsReplay, IsReport, IsReportOf, TellsHeadline, TellsOf, TellsProgram}
 
 module _ (words : ReplayWords) (before : FilesView) where

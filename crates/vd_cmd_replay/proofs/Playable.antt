@@ -36,8 +36,8 @@ use Rattle.vd_world_report.specs.Told.{TellsUnder}
 use Rattle.vd_world_report.proofs.Front.{programs_tell}
 use Rattle.vd_cmd_choice.specs.Choice.{IsSelected}
 use Rattle.vd_cmd_compile.proofs.Front.{code_count, runnable_of, covered, stored_for}
-use Rattle.vd_cmd_inputs.specs.declared.asked.Asked.{Asked}
-use Rattle.vd_cmd_inputs.specs.Asking.{AreAsked}
+use Rattle.vd_cmd_files.specs.declared.asked.Asked.{Asked}
+use Rattle.vd_cmd_files.specs.Asking.{AreAsked}
 use Rattle.vd_cmd_replay.specs.Counting.{packets_for}
 use Rattle.vd_cmd_replay.specs.Replaying.{report_for, world_for}
 use Rattle.vd_cmd_replay.specs.Telling.{IsReport, TellsOf}

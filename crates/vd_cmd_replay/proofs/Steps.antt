@@ -35,10 +35,10 @@ use Rattle.vd_cmd_choice.specs.Programs.{program_then}
 use Rattle.vd_cmd_labels.specs.Inputs.{HoldsInputs, as_inputs, inputs_then, words_of}
 use Rattle.vd_report_laws.specs.Outcomes.{ReplayOutcomes}
 use Rattle.vd_report_laws.proofs.Front.{outcomes_are_single}
-use Rattle.vd_cmd_inputs.specs.declared.asked.Asked.{Asked}
-use Rattle.vd_cmd_inputs.specs.Asking.{HoldAsked, asked_of, asked_then}
-use Rattle.vd_cmd_inputs.specs.Deals.{HoldsDeal, as_deal, deal_of, deal_then, deals_from}
-use Rattle.vd_cmd_inputs.specs.Schedules.{HoldsSchedule, as_schedule, schedule_of, schedule_then}
+use Rattle.vd_cmd_files.specs.declared.asked.Asked.{Asked}
+use Rattle.vd_cmd_files.specs.Asking.{HoldAsked, asked_of, asked_then}
+use Rattle.vd_cmd_files.specs.Deals.{HoldsDeal, as_deal, deal_of, deal_then, deals_from}
+use Rattle.vd_cmd_files.specs.Schedules.{HoldsSchedule, as_schedule, schedule_of, schedule_then}
 
 -- ---- a function that gives least labellings, of a system that may be too large too
 

@@ -17,11 +17,11 @@ use Rattle.vd_cmd_choice.specs.Outcomes.{CertificateOutcomes}
 use Rattle.vd_cmd_choice.specs.Searching.{Searched, searched_by, sure_search}
 use Rattle.vd_cmd_choice.proofs.Front.{choice_follows, program_follows}
 use Rattle.vd_report_laws.specs.Outcomes.{ReplayOutcomes}
-use Rattle.vd_cmd_inputs.specs.declared.asked.Asked.{Asked}
-use Rattle.vd_cmd_inputs.specs.Asking.{asked_of}
-use Rattle.vd_cmd_inputs.specs.Deals.{deal_of, deal_then, deals_from}
+use Rattle.vd_cmd_files.specs.declared.asked.Asked.{Asked}
+use Rattle.vd_cmd_files.specs.Asking.{asked_of}
+use Rattle.vd_cmd_files.specs.Deals.{deal_of, deal_then, deals_from}
 use Rattle.vd_cmd_replay.specs.Replaying.{asked_plan, choice_plan, program_plan, replay_plan}
-use Rattle.vd_cmd_inputs.specs.Schedules.{schedule_of, schedule_then}
+use Rattle.vd_cmd_files.specs.Schedules.{schedule_of, schedule_then}
 
 module _ (files : Contents) where
   abbrev Each : {X : Type 0} → (X → Contents → Plan) → (X → Contents → Plan) → Type 0

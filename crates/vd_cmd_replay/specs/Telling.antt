@@ -27,8 +27,8 @@ use Rattle.vd_cmd_labels.specs.Sources.{HoldsSource}
 use Rattle.vd_cmd_compile.specs.Compiling.{IsStoredFor}
 use Rattle.vd_cmd_choice.specs.Choice.{IsSelected}
 use Rattle.vd_cmd_compile.specs.Selected.{AreCovered}
-use Rattle.vd_cmd_inputs.specs.declared.asked.Asked.{Asked}
-use Rattle.vd_cmd_inputs.specs.Asking.{HoldAsked}
+use Rattle.vd_cmd_files.specs.declared.asked.Asked.{Asked}
+use Rattle.vd_cmd_files.specs.Asking.{HoldAsked}
 
 -- ---- the two halves of the headline
 

@@ -6,7 +6,7 @@ use Rattle.vd_cmd_plan.specs.Plans.{Computes, ended}
 use Rattle.vd_cmd_plan.specs.declared.answer.Answer.{Answer}
 use Rattle.vd_cmd_plan.specs.declared.status.Status.{Status}
 use Rattle.vd_cmd_plan.specs.declared.status.Status.TheVariants.{Ended, Memory, ReadFault}
-use Rattle.vd_cmd_inputs.specs.declared.asked.Asked.{Asked}
+use Rattle.vd_cmd_files.specs.declared.asked.Asked.{Asked}
 use Rattle.vd_cmd_replay.specs.Replaying.{report_for}
 use Rattle.vd_cmd_trial.specs.Trial.{headed_by, trial_asked, trial_text}
 

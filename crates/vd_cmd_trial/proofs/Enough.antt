@@ -26,8 +26,8 @@ use Rattle.vd_deal_needs_limits.proofs.Front.{small_programs_can_be_dealt, withi
 use Rattle.vd_search_stages.specs.declared.optimum.Assignment.{Assignment}
 use Rattle.vd_cmd_choice.specs.Choice.{IsSelected}
 use Rattle.vd_cmd_compile.proofs.Front.{runnable_of}
-use Rattle.vd_cmd_inputs.specs.declared.asked.Asked.{Asked}
-use Rattle.vd_cmd_inputs.specs.Asking.{AreAsked}
+use Rattle.vd_cmd_files.specs.declared.asked.Asked.{Asked}
+use Rattle.vd_cmd_files.specs.Asking.{AreAsked}
 use Rattle.vd_cmd_trial.specs.Trial.{Suffice, asked_by, most_inputs, trial_asked, trial_input, trial_inputs, trial_words}
 
 pub splits : (program : NormalForm) (a : Assignment) → IsWellMade program → NumbersFit program → IsSelected program a → CanRunAt program a.protocols

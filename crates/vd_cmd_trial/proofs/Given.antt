@@ -12,8 +12,8 @@ use Rattle.vd_tape.proofs.Front.{all_first, count_of_deals, deals_of}
 use Rattle.vd_deal_needs.specs.declared.taking.HostNeeds.{HostNeeds}
 use Rattle.vd_deal_needs.specs.Sizes.{sizes_of}
 use Rattle.vd_base.specs.Limits.{most_hosts}
-use Rattle.vd_cmd_inputs.specs.declared.asked.Asked.{Asked}
-use Rattle.vd_cmd_inputs.specs.Asking.{AreAsked}
+use Rattle.vd_cmd_files.specs.declared.asked.Asked.{Asked}
+use Rattle.vd_cmd_files.specs.Asking.{AreAsked}
 use Rattle.vd_base.specs.Words.{InputsAreWords}
 use Rattle.vd_cmd_trial.specs.Trial.{asked_by, most_inputs, trial_input, trial_inputs, trial_words}
 

@@ -42,7 +42,7 @@ use Rattle.vd_cmd_plan.specs.declared.status.Status.{Status}
 use Rattle.vd_cmd_plan.specs.declared.status.Status.TheVariants.{Ended, NoAssignment}
 use Rattle.vd_cmd_labels.specs.Sources.{as_resolved, resolved_of}
 use Rattle.vd_cmd_choice.specs.Choice.{IsSelected, no_list}
-use Rattle.vd_cmd_inputs.specs.declared.asked.Asked.{Asked}
+use Rattle.vd_cmd_files.specs.declared.asked.Asked.{Asked}
 use Rattle.vd_cmd_replay.specs.Telling.{IsReport}
 use Rattle.vd_cmd_trial.specs.Trial.{Suffice, headed_by, trial_asked}
 use Rattle.vd_cmd_trial.specs.Telling.{IsRun, TellsProgram, TellsSource, TellsTrial, ended_line, ended_lines}

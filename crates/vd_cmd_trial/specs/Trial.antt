@@ -26,7 +26,7 @@ use Rattle.vd_cmd_labels.specs.Outcomes.{TextOutcomes, LabelOutcomes}
 use Rattle.vd_cmd_labels.specs.Sources.{source_of, resolved_of}
 use Rattle.vd_cmd_choice.specs.Searching.{Search, SomeSearch}
 use Rattle.vd_cmd_choice.specs.Choice.{choice_of_then, no_list}
-use Rattle.vd_cmd_inputs.specs.declared.asked.Asked.{Asked}
+use Rattle.vd_cmd_files.specs.declared.asked.Asked.{Asked}
 use Rattle.vd_cmd_replay.specs.Replaying.{report_for}
 
 -- ---- what is run on

@@ -8,13 +8,13 @@ ghost use Rattle.vd_tape.specs.Made.{AreCounts};
 ghost use Rattle.vd_deal_needs.specs.Sizes.{sizes_of};
 ghost use Rattle.vd_cmd_choice.specs.Choice.{IsSelected};
 ghost use Rattle.vd_deal_needs_limits.specs.Items.{most_executed};
-ghost use Rattle.vd_cmd_inputs.specs.Asking.{AreAsked};
+ghost use Rattle.vd_cmd_files.specs.Asking.{AreAsked};
 ghost use Rattle.vd_cmd_trial.specs.Trial.{Suffice, asked_by, most_inputs, trial_asked, trial_input, trial_inputs, trial_words};
 
 use std::alloc::{AllocError, Global};
 use vd_base::{Inputs, Words};
 use vd_base_lists::Items;
-use vd_cmd_inputs::Asked;
+use vd_cmd_files::Asked;
 use vd_core::Program;
 use vd_deal_needs::{HostNeeds, sizes};
 use vd_deal_needs_programs::needs_of_program;

@@ -1,7 +1,7 @@
 use Rattle.std.proofs.Common.{Some, None, length, subst, sym}
 use Rattle.std.proofs.lemmas.Result.{err_from_is_err_and}
 use Rattle.vd_core.specs.declared.normal.NormalForm.{NormalForm}
-use Rattle.vd_cmd_inputs.specs.Asking.{AreAsked}
+use Rattle.vd_cmd_files.specs.Asking.{AreAsked}
 use Rattle.vd_cmd_plan.specs.Labelled.{labelled_form}
 use Rattle.vd_cmd_plan.proofs.Front.{answers}
 use Rattle.vd_cmd_choice.specs.Choice.{IsSelected, no_list}

@@ -2,7 +2,7 @@ use Rattle.std.proofs.Common.{length, subst}
 use Rattle.std.proofs.lemmas.Result.{err_from_is_err_and}
 use Rattle.vd_core.specs.declared.normal.NormalForm.{NormalForm}
 use Rattle.vd_cmd_choice.specs.Searching.{GaveUp, searched_by}
-use Rattle.vd_cmd_inputs.specs.Asking.{AreAsked}
+use Rattle.vd_cmd_files.specs.Asking.{AreAsked}
 use Rattle.vd_cmd_replay.specs.Replaying.{asked_plan}
 use Rattle.vd_cmd_replay.proofs.Counting.{program_counted}
 use Rattle.vd_cmd_replay.proofs.Held.{program_told}

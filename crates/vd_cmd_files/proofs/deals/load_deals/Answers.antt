@@ -3,9 +3,9 @@ use Rattle.std.proofs.lemmas.Result.{err_from_is_err_and}
 use Rattle.vd_deal_items.specs.declared.deal.Deal.{Deal}
 use Rattle.vd_tape.specs.Text.{AreDealsOf, IsDealOf}
 use Rattle.vd_tape.proofs.Front.{more_deals}
-use Rattle.vd_cmd_inputs.specs.Deals.{HoldDeals}
-use Rattle.vd_cmd_inputs.proofs.Loops.{GoesOn, all_there, no_memory, one_held, one_more, stops}
-use Rattle.vd_cmd_inputs.proofs.deals.load_deals.Goals as goal
+use Rattle.vd_cmd_files.specs.Deals.{HoldDeals}
+use Rattle.vd_cmd_files.proofs.Loops.{GoesOn, all_there, no_memory, one_held, one_more, stops}
+use Rattle.vd_cmd_files.proofs.deals.load_deals.Goals as goal
 
 pub returns-in_err-deal-clause-loads : goal.returns-in_err-deal-clause-loads
 returns-in_err-deal-clause-loads g c = λ outcomes.

@@ -3,7 +3,7 @@
 ghost use Rattle.std.specs.Prelude.{◌≤◌, length, IfOk};
 ghost use Rattle.vd_base.specs.Limits.{most_hosts};
 ghost use Rattle.vd_cmd_plan.specs.Held.{Finds};
-ghost use Rattle.vd_cmd_inputs.specs.Asking.{AreAsked, HoldAsked, LoadsAsked};
+ghost use Rattle.vd_cmd_files.specs.Asking.{AreAsked, HoldAsked, LoadsAsked};
 
 use crate::asked::Asked;
 use crate::deals::load_deals;

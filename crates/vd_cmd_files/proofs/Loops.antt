@@ -16,7 +16,7 @@ use Rattle.vd_cmd_plan.specs.declared.status.Status.TheVariants.{Memory}
 use Rattle.vd_cmd_plan.proofs.Front.{any_memory}
 use Rattle.vd_report_laws.specs.Outcomes.{ReplayOutcomes}
 use Rattle.vd_report_laws.proofs.Front.{some_outcomes}
-use Rattle.vd_cmd_inputs.specs.Deals.{HoldDeals, HoldsDeal, deal_then, deals_from, deals_then}
+use Rattle.vd_cmd_files.specs.Deals.{HoldDeals, HoldsDeal, deal_then, deals_from, deals_then}
 
 module _ (prefix : List ℕ) (names : List (List ℕ)) where
   -- the plan from the host with this number on, behind these deals

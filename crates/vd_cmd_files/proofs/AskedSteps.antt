@@ -14,11 +14,11 @@ use Rattle.vd_cmd_labels.proofs.Front.{some_texts}
 use Rattle.vd_cmd_labels.specs.Inputs.{inputs_then, HoldsInputs}
 use Rattle.vd_report_laws.specs.Outcomes.{ReplayOutcomes}
 use Rattle.vd_report_laws.proofs.Front.{some_outcomes}
-use Rattle.vd_cmd_inputs.specs.declared.asked.Asked.{Asked}
-use Rattle.vd_cmd_inputs.specs.Asking.{AreAsked, HoldAsked, asked_of, asked_then}
-use Rattle.vd_cmd_inputs.specs.Deals.{HoldDeals, deals_then}
+use Rattle.vd_cmd_files.specs.declared.asked.Asked.{Asked}
+use Rattle.vd_cmd_files.specs.Asking.{AreAsked, HoldAsked, asked_of, asked_then}
+use Rattle.vd_cmd_files.specs.Deals.{HoldDeals, deals_then}
 use Rattle.vd_base.specs.Words.{InputsAreWords}
-use Rattle.vd_cmd_inputs.specs.Schedules.{HoldsSchedule, schedule_then}
+use Rattle.vd_cmd_files.specs.Schedules.{HoldsSchedule, schedule_then}
 
 module _ (texts : TextOutcomes) (outcomes : ReplayOutcomes) (words : ReplayWords) (names : List (List ℕ)) where
   abbrev after_deals : (Asked → Contents → Plan) → List (List ℕ) → List Deal → Contents → Plan

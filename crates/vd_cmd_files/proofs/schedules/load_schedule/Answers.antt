@@ -3,8 +3,8 @@ use Rattle.std.proofs.lemmas.Result.{err_from_is_err_and}
 use Rattle.vd_base.specs.Limits.{most_schedule_bytes}
 use Rattle.vd_report.specs.ScheduleText.{GivesSchedule}
 use Rattle.vd_report.specs.declared.schedule.Schedule.{Schedule}
-use Rattle.vd_cmd_inputs.proofs.Reading.{found, schedule_err, schedule_ok}
-use Rattle.vd_cmd_inputs.proofs.schedules.load_schedule.Goals as goal
+use Rattle.vd_cmd_files.proofs.Reading.{found, schedule_err, schedule_ok}
+use Rattle.vd_cmd_files.proofs.schedules.load_schedule.Goals as goal
 
 pub returns-in_err-bytes-clause-loads : goal.returns-in_err-bytes-clause-loads
 returns-in_err-bytes-clause-loads g c = λ outcomes.

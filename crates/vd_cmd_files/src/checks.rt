@@ -4,7 +4,7 @@ ghost use Rattle.std.specs.Prelude.{OnOk};
 ghost use Rattle.vd_deal_items.specs.Validity.{AreDeals, IsConsistent};
 ghost use Rattle.vd_cmd_plan.specs.Plans.{Checks};
 ghost use Rattle.vd_report_laws.specs.Outcomes.{ReplayOutcomes};
-ghost use Rattle.vd_cmd_inputs.specs.Deals.{as_consistent};
+ghost use Rattle.vd_cmd_files.specs.Deals.{as_consistent};
 
 use vd_cmd_plan::Status;
 use vd_deal_items::Deals;

@@ -1,8 +1,8 @@
 use Rattle.std.proofs.Common.{◌≡◌, IsTrue, length}
 use Rattle.vd_tape.specs.Text.{AreDealsOf}
-use Rattle.vd_cmd_inputs.specs.Deals.{HoldDeals}
-use Rattle.vd_cmd_inputs.proofs.Loops.{GoesOn}
-use Rattle.vd_cmd_inputs.proofs.deals.load_deals.Given as goal
+use Rattle.vd_cmd_files.specs.Deals.{HoldDeals}
+use Rattle.vd_cmd_files.proofs.Loops.{GoesOn}
+use Rattle.vd_cmd_files.proofs.deals.load_deals.Given as goal
 
 abbrev pub invariant-loop-number : goal.invariant-loop-number
 invariant-loop-number g l = record {

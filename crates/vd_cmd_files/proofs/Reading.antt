@@ -17,8 +17,8 @@ use Rattle.vd_cmd_plan.specs.declared.status.Status.{Status}
 use Rattle.vd_cmd_plan.specs.declared.status.Status.TheVariants.{DealText}
 use Rattle.vd_cmd_plan.proofs.Front.{loaded_is, both_steps, check_step, first_step, load_step}
 use Rattle.vd_report_laws.specs.Outcomes.{IsDealRead, ReplayOutcomes}
-use Rattle.vd_cmd_inputs.specs.Deals.{as_deal, deal_of, deal_then}
-use Rattle.vd_cmd_inputs.specs.Schedules.{schedule_of, schedule_then}
+use Rattle.vd_cmd_files.specs.Deals.{as_deal, deal_of, deal_then}
+use Rattle.vd_cmd_files.specs.Schedules.{schedule_of, schedule_then}
 
 -- what was read of a file is what the file says
 pub found : {T : Type 0} (name file : List ℕ) (limit : ℕ) (before now : FilesView) (bytes seen : List ℕ) (result : Result T Status) (Is : List ℕ → T → Type 0) → file ≡ name → Loads file limit before now (Ok bytes) → seen ≡ bytes

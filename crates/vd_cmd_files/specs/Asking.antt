@@ -11,9 +11,9 @@ use Rattle.vd_cmd_plan.specs.declared.status.Status.{Status}
 use Rattle.vd_cmd_labels.specs.Outcomes.{TextOutcomes}
 use Rattle.vd_cmd_labels.specs.Inputs.{inputs_then, HoldsInputs}
 use Rattle.vd_report_laws.specs.Outcomes.{ReplayOutcomes}
-use Rattle.vd_cmd_inputs.specs.declared.asked.Asked.{Asked}
-use Rattle.vd_cmd_inputs.specs.Deals.{deals_then, HoldDeals}
-use Rattle.vd_cmd_inputs.specs.Schedules.{schedule_then, HoldsSchedule}
+use Rattle.vd_cmd_files.specs.declared.asked.Asked.{Asked}
+use Rattle.vd_cmd_files.specs.Deals.{deals_then, HoldDeals}
+use Rattle.vd_cmd_files.specs.Schedules.{schedule_then, HoldsSchedule}
 use Rattle.vd_base.specs.Words.{InputsAreWords}
 
 -- the inputs are words, and they and the deals are those of so many hosts

@@ -1,7 +1,7 @@
 use Rattle.std.proofs.Common.{ℕ, List, Err, refl, sym, ap, ◌∙◌}
 use Rattle.vd_cmd_plan.specs.declared.status.Status.TheVariants.{DealText}
-use Rattle.vd_cmd_inputs.proofs.Reading.{deal_given, deal_refused}
-use Rattle.vd_cmd_inputs.proofs.deals.deal_in.Goals as goal
+use Rattle.vd_cmd_files.proofs.Reading.{deal_given, deal_refused}
+use Rattle.vd_cmd_files.proofs.deals.deal_in.Goals as goal
 
 pub returns-in-Ok-clause-reads : goal.returns-in-Ok-clause-reads
 returns-in-Ok-clause-reads c = λ outcomes. record {

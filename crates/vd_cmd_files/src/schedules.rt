@@ -6,7 +6,7 @@ ghost use Rattle.vd_cmd_plan.specs.Held.{Finds};
 ghost use Rattle.vd_cmd_plan.specs.Plans.{Checks};
 ghost use Rattle.vd_report.specs.ScheduleText.{GivesSchedule};
 ghost use Rattle.vd_report_laws.specs.Outcomes.{ReplayOutcomes};
-ghost use Rattle.vd_cmd_inputs.specs.Schedules.{HoldsSchedule, LoadsSchedule, schedule_of};
+ghost use Rattle.vd_cmd_files.specs.Schedules.{HoldsSchedule, LoadsSchedule, schedule_of};
 
 use std::alloc::Global;
 use vd_base::Names;

@@ -4,8 +4,8 @@ use Rattle.vd_cmd_plan.specs.Numbered.{file_name}
 use Rattle.vd_base.specs.Limits.{most_deal_bytes}
 use Rattle.vd_deal_items.specs.declared.deal.Deal.{Deal}
 use Rattle.vd_deal_versions.specs.Plain.{IsDealIn}
-use Rattle.vd_cmd_inputs.proofs.Reading.{deal_err, deal_ok, found}
-use Rattle.vd_cmd_inputs.proofs.deals.load_deal.Goals as goal
+use Rattle.vd_cmd_files.proofs.Reading.{deal_err, deal_ok, found}
+use Rattle.vd_cmd_files.proofs.deals.load_deal.Goals as goal
 
 pub returns-in_err-bytes-clause-loads : goal.returns-in_err-bytes-clause-loads
 returns-in_err-bytes-clause-loads g c = λ outcomes.

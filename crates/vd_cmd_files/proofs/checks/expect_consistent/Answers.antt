@@ -1,7 +1,7 @@
 use Rattle.std.proofs.Common.{None, Some, ap}
 use Rattle.vd_report_laws.proofs.Front.{judged_once}
-use Rattle.vd_cmd_inputs.specs.Deals.{as_consistent}
-use Rattle.vd_cmd_inputs.proofs.checks.expect_consistent.Goals as goal
+use Rattle.vd_cmd_files.specs.Deals.{as_consistent}
+use Rattle.vd_cmd_files.proofs.checks.expect_consistent.Goals as goal
 
 pub returns-in-Ok-clause-checks : goal.returns-in-Ok-clause-checks
 returns-in-Ok-clause-checks c = λ outcomes. record {

@@ -6,7 +6,7 @@ ghost use Rattle.vd_cmd_plan.specs.Held.{Finds};
 ghost use Rattle.vd_cmd_plan.specs.Plans.{Checks};
 ghost use Rattle.vd_tape.specs.Text.{AreDealsOf, IsDealOf};
 ghost use Rattle.vd_deal_versions.specs.Plain.{IsDealIn};
-ghost use Rattle.vd_cmd_inputs.specs.Deals.{HoldDeals, HoldsDeal, LoadsDeal, LoadsDeals, deal_of};
+ghost use Rattle.vd_cmd_files.specs.Deals.{HoldDeals, HoldsDeal, LoadsDeal, LoadsDeals, deal_of};
 ghost use Rattle.vd_report_laws.specs.Outcomes.{ReplayOutcomes};
 
 use std::alloc::Global;
