@@ -15,8 +15,8 @@ use Rattle.vd_backend_laws.specs.Given.{zero_deal}
 use Rattle.vd_backend_laws.specs.Parts.{suite_calls}
 use Rattle.vd_backend_laws.specs.Whole.{inputs_of}
 use Rattle.vd_backend_laws.proofs.Front.{zero_deals_are_valid}
-use Rattle.vd_backend_all.specs.Offered.{IsServed, offer_of}
-use Rattle.vd_backend_all.proofs.Front.{programs_can_be_split}
+use Rattle.vd_backends.specs.Offered.{IsServed, offer_of}
+use Rattle.vd_backends.proofs.Front.{programs_can_be_split}
 use Rattle.vd_projection.specs.Programs.{CanRunAt, joint_of, host_codes}
 use Rattle.vd_projection.proofs.HostCodes.{proto_over, runnable_over, program_can_run, no_words, picked_codes}
 

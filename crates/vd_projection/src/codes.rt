@@ -4,7 +4,7 @@ ghost use Rattle.vd_execution.specs.Text.{flat, pick};
 ghost use Rattle.vd_projection.specs.Programs.{CanRunAt, host_codes, joint_of};
 
 use std::alloc::{AllocError, Global};
-use vd_backend_all::Built;
+use vd_backends::Built;
 use vd_base::{HostId, Proto};
 use vd_base_lists::Items;
 use vd_core::Program;

@@ -1,5 +1,0 @@
-use Rattle.vd_backend_all.proofs.Served.{programs_can_be_split}
-use Rattle.vd_backend_all.proofs.laws.programs_can_be_split.Goals as goal
-
-pub returns : goal.returns
-returns c = programs_can_be_split

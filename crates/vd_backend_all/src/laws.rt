@@ -1,7 +1,0 @@
-ghost use Rattle.vd_backend_all.specs.Offered.{ProgramsCanBeSplit};
-
-/// The splitter can be asked for every well-made program at protocols over its hosts at which it is valid. Nothing is
-/// computed here: the clause is a law.
-pub fn programs_can_be_split()
-    ensures { ProgramsCanBeSplit }
-{}
