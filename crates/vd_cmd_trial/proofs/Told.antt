@@ -18,7 +18,7 @@ use Rattle.vd_resolve.specs.Limits.{resolution}
 use Rattle.vd_resolve.specs.Faults.{Fault}
 use Rattle.vd_gen.specs.Sizes.{most_coordinates}
 use Rattle.vd_gen.specs.Source.{generated}
-use Rattle.vd_gen_laws.proofs.Front.{executed_of}
+use Rattle.vd_cmd_trial_laws.proofs.Front.{executed_of}
 use Rattle.vd_deal_needs_limits.specs.Items.{most_executed}
 use Rattle.vd_execution.specs.Joint.{Joint, started}
 use Rattle.vd_execution.specs.World.{Supply, World}

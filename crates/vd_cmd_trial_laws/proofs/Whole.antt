@@ -16,13 +16,13 @@ use Rattle.vd_resolve.specs.Sizes.{source_size}
 use Rattle.vd_resolve.specs.Limits.{resolution}
 use Rattle.vd_gen.specs.Sizes.{most_coordinates}
 use Rattle.vd_gen.specs.Source.{generated}
-use Rattle.vd_gen_laws.proofs.Words.{Part, text_of, tokens_from, lexes_parts, Holds, holds_map, holds_at, shallow_parts}
-use Rattle.vd_gen_laws.proofs.Script.{head_parts, coordinates_parts, last_parts, script, script_text, script_lexable, script_shallow}
-use Rattle.vd_gen_laws.proofs.Trees.{named, IsKind, Reads, form_named, form_both, host, source}
-use Rattle.vd_gen_laws.proofs.Rules.{the_label, count, source_resolves}
-use Rattle.vd_gen_laws.proofs.Lines.{Body}
-use Rattle.vd_gen_laws.proofs.Coordinates.{coordinates_size, coordinates_few, coordinates_body, last_body, Known, none_known}
-use Rattle.vd_gen_laws.proofs.Sizes.{short_source}
+use Rattle.vd_cmd_trial_laws.proofs.Words.{Part, text_of, tokens_from, lexes_parts, Holds, holds_map, holds_at, shallow_parts}
+use Rattle.vd_cmd_trial_laws.proofs.Script.{head_parts, coordinates_parts, last_parts, script, script_text, script_lexable, script_shallow}
+use Rattle.vd_cmd_trial_laws.proofs.Trees.{named, IsKind, Reads, form_named, form_both, host, source}
+use Rattle.vd_cmd_trial_laws.proofs.Rules.{the_label, count, source_resolves}
+use Rattle.vd_cmd_trial_laws.proofs.Lines.{Body}
+use Rattle.vd_cmd_trial_laws.proofs.Coordinates.{coordinates_size, coordinates_few, coordinates_body, last_body, Known, none_known}
+use Rattle.vd_cmd_trial_laws.proofs.Sizes.{short_source}
 
 -- the bytes of the token are this text
 abbrev Says : List ℕ → Token → List ℕ → Type 0

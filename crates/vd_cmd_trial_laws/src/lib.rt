@@ -3,7 +3,7 @@
 
 ghost use Rattle.std.specs.Prelude.{ℕ, List};
 ghost use Rattle.vd_cmd_labels.specs.Outcomes.{TextOutcomes};
-ghost use Rattle.vd_gen_laws.specs.Claims.{AtEachSize, GivesSource, IsRead};
+ghost use Rattle.vd_cmd_trial_laws.specs.Claims.{AtEachSize, GivesSource, IsRead};
 
 /// The text that is generated for 1 to 100 coordinates is that of a source: it has tokens and one tree, no bracket is too deep, and
 /// no byte is too many. The source meets every rule on names, kinds and limits. The statements of its let-normal form are executed at

@@ -29,7 +29,7 @@ use Rattle.vd_resolve.specs.declared.size.Size.{Size}
 use Rattle.vd_resolve.specs.Rules.{Scope, form_check, form_known, label_check, infix_kind, expr_typing, segment_typing, typing, typing_of_segment, statement_check, checking, in_sequence}
 use Rattle.vd_resolve.specs.Sizes.{also, nothing, Variables, is_variable, Sizing, SegmentSizing, StatementSizing, expr_sizing, segment_sizing, sizing, sizing_of_segment, is_scale, statement_sizing, statement_size, statements_after}
 use Rattle.vd_resolve.specs.Limits.{within, resolution}
-use Rattle.vd_gen_laws.proofs.Trees.{named, two}
+use Rattle.vd_cmd_trial_laws.proofs.Trees.{named, two}
 
 -- ---- equations of the folds
 

@@ -9,11 +9,11 @@ use Rattle.vd_base.specs.Names.{Named, at_name}
 use Rattle.vd_source_lexer.specs.declared.token.TokenKind.TheVariants as kind
 use Rattle.vd_resolve.specs.declared.symbol.Symbol.{Symbol as Value}
 use Rattle.vd_resolve.specs.declared.symbol.Symbol.TheVariants.{Constant}
-use Rattle.vd_gen_laws.proofs.Words.{Part, Gap, word, Holds, holds_map}
-use Rattle.vd_gen_laws.proofs.Names.{same_bytes, other_number}
-use Rattle.vd_gen_laws.proofs.Script.{input_parts, two_parts, answer_parts, output_parts, tail_parts, sum_letter, sum_parts, coordinate_parts, coordinates_parts, last_parts}
-use Rattle.vd_gen_laws.proofs.Rules.{scope}
-use Rattle.vd_gen_laws.proofs.Lines.{at_behind, at_front, Nothing, AreWords, IsWord, input_line, minus_line, star_line, plus_line, answer_line, Body, no_more, more, output_more, weaken}
+use Rattle.vd_cmd_trial_laws.proofs.Words.{Part, Gap, word, Holds, holds_map}
+use Rattle.vd_cmd_trial_laws.proofs.Names.{same_bytes, other_number}
+use Rattle.vd_cmd_trial_laws.proofs.Script.{input_parts, two_parts, answer_parts, output_parts, tail_parts, sum_letter, sum_parts, coordinate_parts, coordinates_parts, last_parts}
+use Rattle.vd_cmd_trial_laws.proofs.Rules.{scope}
+use Rattle.vd_cmd_trial_laws.proofs.Lines.{at_behind, at_front, Nothing, AreWords, IsWord, input_line, minus_line, star_line, plus_line, answer_line, Body, no_more, more, output_more, weaken}
 
 -- ---- lines, with what follows them
 

@@ -18,8 +18,8 @@ use Rattle.vd_resolve.specs.declared.symbol.Symbol.TheVariants.{Constant}
 use Rattle.vd_resolve.specs.Faults.{Fault}
 use Rattle.vd_resolve.specs.Rules.{and_then, checking, in_sequence}
 use Rattle.vd_resolve.specs.Sizes.{also, Variables, is_variable, is_true, statement_size, statements_after}
-use Rattle.vd_gen_laws.proofs.Trees.{named, two, IsKind, Reads, name, number, input, star, plus, minus, less, declassify, form_either, expr_of_atom, binding, output, statements_end, statements_more}
-use Rattle.vd_gen_laws.proofs.Rules.{scope, types_input, types_names, types_answer, let_checks, output_checks, count, also_count, Plain, Sizes, sizes_input, sizes_names, sizes_answer, sizes_output}
+use Rattle.vd_cmd_trial_laws.proofs.Trees.{named, two, IsKind, Reads, name, number, input, star, plus, minus, less, declassify, form_either, expr_of_atom, binding, output, statements_end, statements_more}
+use Rattle.vd_cmd_trial_laws.proofs.Rules.{scope, types_input, types_names, types_answer, let_checks, output_checks, count, also_count, Plain, Sizes, sizes_input, sizes_names, sizes_answer, sizes_output}
 
 -- ---- names in sight
 

@@ -13,8 +13,8 @@ use Rattle.vd_gen.specs.Sizes.{most_coordinates}
 use Rattle.vd_gen.specs.Source.{generated}
 use Rattle.vd_cmd_labels.specs.Outcomes.{TextOutcomes}
 use Rattle.vd_cmd_labels.specs.Sources.{as_source, as_resolved}
-use Rattle.vd_gen_laws.specs.Claims.{GivesSource, IsRead}
-use Rattle.vd_gen_laws.proofs.Whole.{generated_is_source}
+use Rattle.vd_cmd_trial_laws.specs.Claims.{GivesSource, IsRead}
+use Rattle.vd_cmd_trial_laws.proofs.Whole.{generated_is_source}
 
 -- how often the statements of a source that meets every rule are executed is how often those of its let-normal form are
 executed_alike : (source : Source) (n : ℕ) → resolution source ≡ Ok tt → (source_size source).weights ≤ n → weight_sum (normal_form source).body ≤ n

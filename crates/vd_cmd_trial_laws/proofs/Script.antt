@@ -8,8 +8,8 @@ use Rattle.vd_source_lexer.specs.Tokens.{first_piece}
 use Rattle.vd_source_lexer.specs.declared.token.TokenKind.{TokenKind}
 use Rattle.vd_source_lexer.specs.declared.token.TokenKind.TheVariants as kind
 use Rattle.vd_gen.specs.Source.{generated, head, coordinate, answer, tail, binding, sum_name, sum_line}
-use Rattle.vd_gen_laws.proofs.Words.{Part, Gap, Word, word, text_of, Lexable, shallow}
-use Rattle.vd_gen_laws.proofs.Names.{IsPlain, name_piece, plain_a, plain_b, plain_d, plain_q, plain_s}
+use Rattle.vd_cmd_trial_laws.proofs.Words.{Part, Gap, Word, word, text_of, Lexable, shallow}
+use Rattle.vd_cmd_trial_laws.proofs.Names.{IsPlain, name_piece, plain_a, plain_b, plain_d, plain_q, plain_s}
 
 -- ---- the parts of each line, with further parts behind them
 
