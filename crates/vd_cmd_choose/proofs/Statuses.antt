@@ -30,5 +30,5 @@ problem_refusal program wanted Usage is = is
 problem_refusal program wanted (ReadFault name) is = is
 problem_refusal program wanted WriteFault is = is
 problem_refusal program wanted (Host cause) is = (is.0, ap (as_problem program) is.1)
-problem_refusal program wanted (ChildFault name cause) is = is
+problem_refusal program wanted (ChildFault hosts fault) is = is
 problem_refusal program wanted status is = ap (as_problem program) is

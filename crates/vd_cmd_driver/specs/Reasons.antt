@@ -2,16 +2,14 @@
 use Rattle.std.specs.Prelude.{◌≡◌, ◌⊎◌, ℕ, List, [], ◌∷◌, ◌++◌, codes, Option, None, Some, slice_get, nat_eq, if◌then◌else◌}
 use Rattle.std.specs.Fmt.{decimal}
 use Rattle.vd_cmd.specs.declared.command.Command.{Command}
-use Rattle.vd_cmd.specs.declared.command.Command.TheVariants.{Host, Run}
+use Rattle.vd_cmd.specs.declared.command.Command.TheVariants.{Host}
 use Rattle.vd_cmd.specs.declared.command.HostWords.{HostWords}
-use Rattle.vd_cmd.specs.declared.command.RunWords.{RunWords}
 use Rattle.vd_edge.specs.PeerReasons.{call_text}
 use Rattle.vd_edge.specs.declared.peer_reason.PeerReason.{PeerReason}
 use Rattle.vd_cmd_host.specs.Loading.{HoldsProgram}
 use Rattle.vd_host_text.specs.declared.program.HostProgram.{HostProgram}
 use Rattle.vd_outside.specs.Files.{Contents}
 use Rattle.vd_cmd_plan.specs.Shown.{shown}
-use Rattle.vd_cmd_run.specs.Compiled.{AreHostsOf}
 
 -- a host speaks by its name, since several can write to one terminal
 abbrev pub speaker : Option (List ℕ) → List ℕ
@@ -57,15 +55,6 @@ IsHostName words contents name = IsOwnName words contents name ⊎ (name ≡ wor
 abbrev pub IsSpeaker : Option Command → Contents → List ℕ → Type 0
 IsSpeaker (Some (Host words)) contents name = IsHostName words contents name
 IsSpeaker command contents name = ⊥
-
--- the host with this number in the source that is run
-abbrev pub IsHostAt : RunWords → Contents → (number : ℕ) → List ℕ → Type 0
-IsHostAt words contents number name = (names : List (List ℕ)) × AreHostsOf words.source contents names × (slice_get names number ≡ Some name)
-
--- so it is with a command line that runs hosts; others run none
-abbrev pub IsHostNumbered : Option Command → Contents → (number : ℕ) → List ℕ → Type 0
-IsHostNumbered (Some (Run words)) contents number name = IsHostAt words contents number name
-IsHostNumbered command contents number name = ⊥
 
 -- a host goes by its number, counted from 0, where its name is not known
 abbrev pub host_part : Option (List ℕ) → (number : ℕ) → List ℕ

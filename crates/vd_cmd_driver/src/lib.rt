@@ -3,12 +3,10 @@
 #![tactic(auto)]
 
 mod ahead;
-mod first;
 mod reasons;
 mod speaker;
 
 pub use ahead::read_ahead;
-pub use first::host_numbered;
 pub use reasons::{
     tell_reason, text_of_first, text_of_packets, text_of_peer, text_of_seal, text_of_sent,
 };

@@ -44,7 +44,7 @@ check_step wanted now (Err Usage) c = absurd c.err
 check_step wanted now (Err (ReadFault name)) c = absurd c.err
 check_step wanted now (Err WriteFault) c = absurd c.err
 check_step wanted now (Err (Host cause)) c = λ rest. subst (λ (t : Contents → Plan). Executes true t now now (Err (Host cause))) (sym (check_refuses wanted (Host cause) c.err.1 rest)) (computes (refused (Host cause)) now (Err (Host cause)) (record { proper = (c.err.0, refl); no_fault = λ file e. cc e; settled = refl }))
-check_step wanted now (Err (ChildFault name cause)) c = absurd c.err
+check_step wanted now (Err (ChildFault hosts fault)) c = absurd c.err
 check_step wanted now (Err status) c = λ rest. subst (λ (t : Contents → Plan). Executes true t now now (Err status)) (sym (check_refuses wanted status c.err rest)) (computes (refused status) now (Err status) (record { proper = refl; no_fault = λ file e. cc e; settled = refl }))
 
 -- two steps in a row

@@ -61,7 +61,7 @@ runs_err fits plan before now out Memory w = runs_quiet fits plan before now out
 runs_err fits plan before now out Usage w = runs_quiet fits plan before now out Usage w tt (λ e. w.proper) (λ e. refl) (λ e. cc e) (λ t. ap (λ (a : Answer). a.status) (w.settled t)) (λ e. e) (λ p. refl) (λ t. (0, w.contents t))
 runs_err fits plan before now out (ReadFault name) w = runs_quiet fits plan before now out (ReadFault name) w tt (λ e. absurd (cc e)) (λ e. absurd (no_form fits w.proper e)) (λ e. cc e) (λ t. tt) (λ e. e) (λ p. refl) (λ t. (0, w.contents t))
 runs_err fits plan before now out (Host cause) w = runs_quiet fits plan before now out (Host cause) w w.proper.0 (λ e. absurd (cc e)) (λ e. absurd (no_form fits w.proper.1 e)) (λ e. cc e) (λ t. ap (λ (a : Answer). a.status) (w.settled t)) (λ e. e) (λ p. refl) (λ t. (0, w.contents t))
-runs_err fits plan before now out (ChildFault name cause) w = absurd w.proper
+runs_err fits plan before now out (ChildFault hosts fault) w = absurd w.proper
 runs_err fits plan before now out other w = runs_quiet fits plan before now out other w tt (λ e. absurd (cc e)) (λ e. absurd (no_form fits w.proper e)) (λ e. cc e) (λ t. ap (λ (a : Answer). a.status) (w.settled t)) (λ e. e) (λ p. refl) (λ t. (0, w.contents t))
 
 last_since : (before xs mid now : List FilesCall) → mid ≡ before ++ xs → IsLastStore mid now → IsLastStore before now

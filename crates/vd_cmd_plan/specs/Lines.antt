@@ -4,10 +4,13 @@ use Rattle.std.specs.Fmt.{decimal, signed_decimal}
 use Rattle.vd_outside.specs.Causes.{Rose}
 use Rattle.vd_outside.specs.Sink.{SinkView}
 use Rattle.vd_cmd_plan.specs.Shown.{shown}
+use Rattle.vd_host_children.specs.declared.fault.ChildrenFault.{ChildrenFault}
+use Rattle.vd_host_children.specs.declared.fault.ChildrenFault.TheVariants as children_fault
 use Rattle.vd_parser.specs.declared.fault.ParseFault.{ParseFault}
 use Rattle.vd_parser.specs.declared.fault.ParseFault.TheVariants as parse_fault
 use Rattle.vd_bound.specs.declared.checking.CheckFault.{CheckFault}
 use Rattle.vd_bound.specs.declared.checking.CheckFault.TheVariants as check_fault
+use Rattle.vd_report.specs.ChoiceLines.{host_name}
 use Rattle.vd_report.specs.declared.fault.ReadFault.{ReadFault as TextFault}
 use Rattle.vd_report.specs.declared.fault.ReadFault.TheVariants as read_fault
 use Rattle.vd_deal_items.specs.declared.deal.BadItem.{BadItem}
@@ -19,8 +22,6 @@ use Rattle.vd_resolve.specs.declared.fault.NameFault.{NameFault}
 use Rattle.vd_resolve.specs.declared.fault.NameFault.TheVariants as name_fault
 use Rattle.vd_cmd_plan.specs.declared.status.HostStatus.{HostStatus}
 use Rattle.vd_cmd_plan.specs.declared.status.HostStatus.TheVariants as host_status
-use Rattle.vd_cmd_plan.specs.declared.status.ChildCause.{ChildCause}
-use Rattle.vd_cmd_plan.specs.declared.status.ChildCause.TheVariants as child_cause
 use Rattle.vd_cmd_plan.specs.declared.status.Status.{Status}
 use Rattle.vd_cmd_plan.specs.declared.status.Status.TheVariants.{Ended, Memory, Usage, ReadFault, WriteFault, TooLong, Syntax, Names, Flow, NoAssignment, Spent, InputText, DealText, ScheduleText, CertificateText, BadDeal, CertificateRefused, Host, ChildFault, NoHost, NotTwo, HasCommit, DealShort, ViewDiffers, DealUsed, ShortKey}
 
@@ -55,7 +56,7 @@ code_of (CertificateText offset) = 15
 code_of (BadDeal bad) = 16
 code_of (CertificateRefused fault) = 17
 code_of (Host status) = host_code status
-code_of (ChildFault name cause) = 26
+code_of (ChildFault hosts fault) = 26
 code_of (NoHost name) = 27
 code_of (NotTwo count) = 28
 code_of (HasCommit slot) = 29
@@ -175,14 +176,16 @@ host_line (host_status.ShortInput cursor count) = two_line (codes "viaduct: shor
 host_line (host_status.ShortDeal kind cursor count) = short_deal_line kind cursor count
 host_line (host_status.EndOfLink name) = name_line (codes "viaduct: link ended ") name
 
--- why a child did not end well, behind its host
-abbrev pub cause_text : ChildCause → List ℕ
-cause_text child_cause.Failed = codes "\n"
-cause_text child_cause.Line = codes " line\n"
-cause_text (child_cause.Status status) = codes " " ++ (decimal status ++ codes "\n")
+-- a host, and why its child did not end well
+abbrev pub child_line : List ℕ → List ℕ → List ℕ
+child_line name cause = codes "viaduct: child fault " ++ (shown name ++ cause)
 
-abbrev pub child_line : List ℕ → ChildCause → List ℕ
-child_line name cause = codes "viaduct: child fault " ++ (shown name ++ cause_text cause)
+-- why the children of hosts with these names did not come to an end
+abbrev pub children_line : List (List ℕ) → ChildrenFault → List ℕ
+children_line hosts children_fault.Memory = memory_line
+children_line hosts (children_fault.Failed host) = child_line (host_name hosts host) (codes "\n")
+children_line hosts (children_fault.Line host) = child_line (host_name hosts host) (codes " line\n")
+children_line hosts (children_fault.Status host status) = child_line (host_name hosts host) (codes " " ++ (decimal status ++ codes "\n"))
 
 -- Ended has no line.
 abbrev pub status_line : Status → List ℕ
@@ -204,7 +207,7 @@ status_line (BadDeal bad) = bad_deal_line bad
 status_line (CertificateText offset) = offset_line (codes "viaduct: cert text at ") offset
 status_line (CertificateRefused fault) = certificate_line fault
 status_line (Host status) = host_line status
-status_line (ChildFault name cause) = child_line name cause
+status_line (ChildFault hosts fault) = children_line hosts fault
 status_line (NoHost name) = name_line (codes "viaduct: no host ") name
 status_line (NotTwo count) = offset_line (codes "viaduct: hosts ") count
 status_line (HasCommit slot) = offset_line (codes "viaduct: commitment ") slot

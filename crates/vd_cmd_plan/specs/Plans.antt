@@ -83,7 +83,7 @@ IsOfProgram other = ⊥
 -- the statuses of hosts that are run over a net or as children come in no plan
 abbrev pub IsPlanned : Status → Type 0
 IsPlanned (Host cause) = IsOfProgram cause
-IsPlanned (ChildFault name cause) = ⊥
+IsPlanned (ChildFault hosts fault) = ⊥
 IsPlanned status = Unit {0}
 
 -- Whatever is told: Usage comes exactly where the words have no form, and a write's fault never before the writing.
@@ -94,7 +94,7 @@ IsProper fits (Err (NoAssignment labelled)) = ⊥
 IsProper fits (Err Usage) = fits ≡ false
 IsProper fits (Err WriteFault) = ⊥
 IsProper fits (Err (Host cause)) = IsOfProgram cause × (fits ≡ true)
-IsProper fits (Err (ChildFault name cause)) = ⊥
+IsProper fits (Err (ChildFault hosts fault)) = ⊥
 IsProper fits (Err status) = fits ≡ true
 
 -- The files were fetched and the answer computed as the plan says, and nothing was written.
@@ -129,7 +129,7 @@ IsRefusal wanted Usage = ⊥
 IsRefusal wanted (ReadFault name) = ⊥
 IsRefusal wanted WriteFault = ⊥
 IsRefusal wanted (Host cause) = IsOfProgram cause × (wanted ≡ Err (Host cause))
-IsRefusal wanted (ChildFault name cause) = ⊥
+IsRefusal wanted (ChildFault hosts fault) = ⊥
 IsRefusal wanted status = wanted ≡ Err status
 
 pub record Checks {T : Type 0} (wanted result : Result T Status) : Type 0 where

@@ -1,21 +1,24 @@
 //! The line that says how a run ended.
 
 ghost use Rattle.std.specs.Prelude.{◌≡◌, IfSome};
+ghost use Rattle.std.specs.List.{flat_map};
+ghost use Rattle.vd_report.specs.ChoiceLines.{host_name};
 ghost use Rattle.vd_outside.specs.Sink.{WritesAll};
-ghost use Rattle.vd_cmd_plan.specs.Lines.{Says, bad_deal_line, bound_line, certificate_line, child_line, cost_line, deal_line, flow_line, kind_name, limit_line, memory_line, name_line, schedule_line, sized_line, status_line, syntax_line, rule_line, input_line, offset_line, quantity_name};
+ghost use Rattle.vd_cmd_plan.specs.Lines.{Says, bad_deal_line, bound_line, certificate_line, child_line, children_line, cost_line, deal_line, flow_line, kind_name, limit_line, memory_line, name_line, schedule_line, sized_line, status_line, syntax_line, rule_line, input_line, offset_line, quantity_name};
 
+use crate::Status;
 use crate::deliver::write_parts;
 use crate::host_lines::write_host_status;
 use crate::shown::write_named;
-use crate::{ChildCause, Status};
 use itoa::Buffer;
 use std::alloc::Global;
-use vd_base::Failed;
+use vd_base::{Failed, HostId, Names};
 use vd_bound::CheckFault;
 use vd_deal_items::{BadItem, DealKind};
+use vd_host_children::ChildrenFault;
 use vd_outside::{Recorder, Sink, write_all};
 use vd_parser::ParseFault;
-use vd_report::ReadFault;
+use vd_report::{ReadFault, name_of};
 use vd_resolve::{NameFault, Quantity};
 
 /// The most bytes of a line that is put together before it is written: as many as a pipe takes whole.
@@ -68,7 +71,7 @@ fn write_status<E: Sink>(err: &mut E, status: &Status) -> Result<(), Failed>
         Status::BadDeal(bad) => write_bad_deal(err, *bad),
         Status::CertificateRefused(fault) => write_certificate_fault(err, *fault),
         Status::Host(fault) => write_host_status(err, fault),
-        Status::ChildFault(name, cause) => write_child_fault(err, name.as_slice(), *cause),
+        Status::ChildFault(hosts, fault) => write_child_fault(err, hosts, *fault),
         Status::NoHost(name) => write_name(err, b"viaduct: no host ", name.as_str().as_bytes()),
         Status::NotTwo(count) => write_place(err, b"viaduct: hosts ", *count),
         Status::HasCommit(slot) => write_place(err, b"viaduct: commitment ", *slot),
@@ -211,17 +214,40 @@ fn write_schedule_fault<E: Sink>(err: &mut E, fault: ReadFault) -> Result<(), Fa
     }
 }
 
-/// Writes the line of a host's child that did not end well.
-fn write_child_fault<E: Sink>(err: &mut E, name: &[u8], cause: ChildCause) -> Result<(), Failed>
-    ensures { WritesAll (child_line name.now cause) (E.view err.old) (E.view err.new) result }
+/// Writes the line of the child that plays this host, which did not end well.
+fn write_child<E: Sink>(
+    err: &mut E,
+    hosts: &Names,
+    host: HostId,
+    cause: &[&[u8]],
+) -> Result<(), Failed>
+    ensures { WritesAll (child_line (host_name hosts.now host) (flat_map (λ part. part.now) cause.now)) (E.view err.old) (E.view err.new)
+        result }
 {
-    match cause {
-        ChildCause::Failed => write_named(err, b"viaduct: child fault ", name, &[b"\n"]),
-        ChildCause::Line => write_named(err, b"viaduct: child fault ", name, &[b" line\n"]),
-        ChildCause::Status(status) => {
+    write_named(
+        err,
+        b"viaduct: child fault ",
+        name_of(hosts, usize::from(host.0)),
+        cause,
+    )
+}
+
+/// Writes the line of children that did not come to an end, which play hosts with these names.
+fn write_child_fault<E: Sink>(
+    err: &mut E,
+    hosts: &Names,
+    fault: ChildrenFault,
+) -> Result<(), Failed>
+    ensures { WritesAll (children_line hosts.now fault) (E.view err.old) (E.view err.new) result }
+{
+    match fault {
+        ChildrenFault::Memory => write_memory(err),
+        ChildrenFault::Failed(host) => write_child(err, hosts, host, &[b"\n"]),
+        ChildrenFault::Line(host) => write_child(err, hosts, host, &[b" line\n"]),
+        ChildrenFault::Status(host, status) => {
             let mut buffer = Buffer::new();
             let number = buffer.format(status).as_bytes();
-            write_named(err, b"viaduct: child fault ", name, &[b" ", number, b"\n"])
+            write_child(err, hosts, host, &[b" ", number, b"\n"])
         }
     }
 }

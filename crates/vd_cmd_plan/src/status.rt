@@ -11,6 +11,7 @@ use vd_bound::CheckFault;
 use vd_constraints::{Check, Origin};
 use vd_deal_items::{BadItem, DealKind};
 use vd_formula::Formula;
+use vd_host_children::ChildrenFault;
 use vd_parser::ParseFault;
 use vd_report::ReadFault;
 use vd_resolve::NameFault;
@@ -77,17 +78,6 @@ impl HostStatus {
     }
 }
 
-/// Why a host's child did not end well.
-#[derive(Clone, Copy, Debug, PartialEq, Eq)]
-pub enum ChildCause {
-    /// A call for it failed.
-    Failed,
-    /// Its lines are not those of a host, or end too early.
-    Line,
-    /// It ended with this status, which is not 0.
-    Status(u32),
-}
-
 /// How a run ended. A fault of a text is carried as the pass that found it gave it; where that wanted memory, or the text was too
 /// long for it, the status is `Memory` or `TooLong`. A search that found no assignment gives back the program that it was made for,
 /// with its least labels.
@@ -129,8 +119,8 @@ pub enum Status {
     CertificateRefused(CheckFault),
     /// One host did not run to its end over a net.
     Host(HostStatus),
-    /// The child that plays this host did not end well.
-    ChildFault(Name, ChildCause),
+    /// The children that play the hosts with these names did not come to an end.
+    ChildFault(Names, ChildrenFault),
     /// No host of the source has this name.
     NoHost(Text),
     /// The source has so many hosts, and not two.

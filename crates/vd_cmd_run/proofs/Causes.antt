@@ -11,7 +11,6 @@ use Rattle.vd_outside.specs.declared.stored.Stored.{Stored}
 use Rattle.vd_cmd_plan.specs.Deliver.{StoresAll}
 use Rattle.vd_cmd_plan.specs.Plans.{Executes, Plan}
 use Rattle.vd_cmd_plan.specs.declared.answer.Answer.{Answer}
-use Rattle.vd_cmd_plan.specs.declared.status.ChildCause.TheVariants as cause
 use Rattle.vd_cmd_plan.specs.declared.status.Status.{Status}
 use Rattle.vd_cmd_plan.specs.declared.status.Status.TheVariants as status
 use Rattle.vd_cmd_run.specs.Completing.{HasCause}
@@ -34,7 +33,7 @@ module _ (before now : Outside) (compiled : FilesView) where
   refused_cause : (plan : Contents → Plan) (end : Status) → Executes true plan before.files compiled (Err end) → now ≡ record before { files = compiled } → HasCause before now end
   refused_cause plan (status.ReadFault name) e same = subst (λ (o : Outside). Rose before.files.faults o.files.faults) (sym same) (e.fault name refl)
   refused_cause plan status.WriteFault e same = absurd e.proper
-  refused_cause plan (status.ChildFault name cause.Failed) e same = absurd e.proper
+  refused_cause plan (status.ChildFault names (children.Failed host)) e same = absurd e.proper
   refused_cause plan other e same = tt
 
   stored_cause : (stores : List Stored) (end : Status) → before.files.faults ≤ compiled.faults → StoresAll stores compiled now.files (Err end) → HasCause before now end

@@ -10,7 +10,7 @@ use Rattle.vd_cmd_labels.specs.Sources.{HoldsSource}
 use Rattle.vd_outside.specs.Causes.{Rose}
 use Rattle.vd_outside.specs.Spawner.{SpawnerView}
 use Rattle.vd_outside.specs.declared.child.Child.{Child}
-use Rattle.vd_cmd_plan.specs.declared.status.ChildCause.TheVariants as cause
+use Rattle.vd_host_children.specs.declared.fault.ChildrenFault.TheVariants as children
 use Rattle.vd_cmd_plan.specs.declared.status.Status.{Status}
 use Rattle.vd_cmd_plan.specs.declared.status.Status.TheVariants.{Ended, Memory}
 use Rattle.vd_cmd_plan.specs.declared.status.Status.TheVariants as status
@@ -53,7 +53,7 @@ RunsAreComplete = (words : RunWords) (before now : Outside) (end : Status) → R
 abbrev pub HasCause : Outside → Outside → Status → Type 0
 HasCause before now (status.ReadFault name) = Rose before.files.faults now.files.faults
 HasCause before now status.WriteFault = Rose before.files.faults now.files.faults ⊎ Rose before.out.faults now.out.faults
-HasCause before now (status.ChildFault name cause.Failed) = Rose before.spawner.faults now.spawner.faults
+HasCause before now (status.ChildFault names (children.Failed host)) = Rose before.spawner.faults now.spawner.faults
 HasCause before now other = Unit {0}
 
 abbrev pub StatusesHaveCauses : Type 0

@@ -2,8 +2,6 @@
 use Rattle.std.specs.Prelude.{ℕ, List, Result, Ok, Err}
 use Rattle.vd_host_children.specs.declared.fault.ChildrenFault.{ChildrenFault}
 use Rattle.vd_host_children.specs.declared.fault.ChildrenFault.TheVariants as children
-use Rattle.vd_report.specs.ChoiceLines.{host_name}
-use Rattle.vd_cmd_plan.specs.declared.status.ChildCause.TheVariants as cause
 use Rattle.vd_cmd_plan.specs.declared.status.Status.{Status}
 use Rattle.vd_cmd_plan.specs.declared.status.Status.TheVariants.{ChildFault, Ended, Memory, WriteFault}
 use Rattle.vd_cmd_run.specs.declared.fault.RunFault.{RunFault}
@@ -11,9 +9,9 @@ use Rattle.vd_cmd_run.specs.declared.fault.RunFault.TheVariants as run
 
 abbrev pub child_status : List (List ℕ) → ChildrenFault → Status
 child_status names children.Memory = Memory
-child_status names (children.Failed host) = ChildFault (host_name names host) cause.Failed
-child_status names (children.Line host) = ChildFault (host_name names host) cause.Line
-child_status names (children.Status host status) = ChildFault (host_name names host) (cause.Status status)
+child_status names (children.Failed host) = ChildFault names (children.Failed host)
+child_status names (children.Line host) = ChildFault names (children.Line host)
+child_status names (children.Status host status) = ChildFault names (children.Status host status)
 
 abbrev pub run_status : List (List ℕ) → Result (Unit {0}) RunFault → Status
 run_status names (Ok done) = Ended

@@ -52,7 +52,7 @@ fn play<F: Files, O: Sink, S: Spawner>(
         out,
         spawner,
     );
-    run_status(alloc, names, came)
+    run_status(names, came)
 }
 
 /// What is done behind the answer of `compile`.

@@ -9,22 +9,25 @@ use Rattle.vd_edge.specs.KeptFiles.{IsReadAhead}
 use Rattle.vd_cmd_host.specs.Hosts.{NetsView}
 use Rattle.vd_cmd_plan.specs.Lines.{Says, code_of, status_line}
 use Rattle.vd_cmd_plan.specs.declared.status.Status.{Status}
-use Rattle.vd_cmd_plan.specs.declared.status.Status.TheVariants.{Host, Memory}
+use Rattle.vd_cmd_plan.specs.declared.status.Status.TheVariants.{ChildFault, Host, Memory}
 use Rattle.vd_cmd_plan.specs.declared.status.HostStatus.TheVariants.{EndOfLink, PeerFault}
 use Rattle.vd_diag.specs.declared.fault.TellFault.{TellFault}
 use Rattle.vd_diag_terminal.specs.Saying.{SaysTo}
 use Rattle.vd_diag_terminal.specs.declared.telling.Destination.{Destination}
 use Rattle.vd_top.specs.Promises.{Around, Starts}
 use Rattle.vd_cmd_driver.specs.Ahead.{wanted_by}
+use Rattle.viaduct.specs.declared.program.Named.{Named}
+use Rattle.viaduct.specs.declared.program.Named.TheVariants.{Hosts, Nobody, Peer}
 
--- the peer that a status names
-abbrev pub peer_of : Status → Option (List ℕ)
-peer_of (Host (PeerFault name)) = Some name
-peer_of (Host (EndOfLink name)) = Some name
-peer_of status = None
+-- whom a status names
+abbrev pub named_of : Status → Named
+named_of (Host (PeerFault name)) = Peer name
+named_of (Host (EndOfLink name)) = Peer name
+named_of (ChildFault names fault) = Hosts names
+named_of status = Nobody
 
 -- The command line was run; then more was said of its status to the person at a terminal; and the process ends with its number.
-pub record IsRun (destination : Destination) (words : List (List ℕ)) (o : Around) (code : ℕ) (peer : Option (List ℕ)) : Type 0 where
+pub record IsRun (destination : Destination) (words : List (List ℕ)) (o : Around) (code : ℕ) (whom : Named) : Type 0 where
   pub status : Status
   -- the files and the error stream between the two
   pub files : FilesView
@@ -33,7 +36,7 @@ pub record IsRun (destination : Destination) (words : List (List ℕ)) (o : Arou
   pub said : Result (Unit {0}) TellFault
   pub more : SaysTo destination words status files o.files.1 err o.err.1 said
   pub ends : code ≡ code_of status
-  pub named : peer ≡ peer_of status
+  pub named : whom ≡ named_of status
 
 -- the objects that a run uses besides files, each before it and after it, and how many packets it says that hosts sent
 pub record Streams : Type 0 where
@@ -45,7 +48,7 @@ pub record Streams : Type 0 where
   pub packets : Option ℕ
 
 -- There was no memory for the files, which is said; nothing else was done.
-pub record WantsMemory (o : Streams) (code : ℕ) (peer : Option (List ℕ)) : Type 0 where
+pub record WantsMemory (o : Streams) (code : ℕ) (whom : Named) : Type 0 where
   pub says : Says (status_line Memory) o.err.0 o.err.1
   pub out : o.out.1 ≡ o.out.0
   pub marks : o.marks.1 ≡ o.marks.0
@@ -53,16 +56,16 @@ pub record WantsMemory (o : Streams) (code : ℕ) (peer : Option (List ℕ)) : T
   pub spawner : o.spawner.1 ≡ o.spawner.0
   pub packets : o.packets ≡ None
   pub ends : code ≡ code_of Memory
-  pub named : peer ≡ None
+  pub named : whom ≡ Nobody
 
 -- The command line was run over the files that it may fetch, each of which was read ahead, or a read of it failed.
-pub record IsRunOver (destination : Destination) (words : List (List ℕ)) (fails_at : List ℕ → Type 0) (holds : Contents) (o : Streams) (code : ℕ) (peer : Option (List ℕ)) : Type 0 where
+pub record IsRunOver (destination : Destination) (words : List (List ℕ)) (fails_at : List ℕ → Type 0) (holds : Contents) (o : Streams) (code : ℕ) (whom : Named) : Type 0 where
   pub read : FilesView
   pub last : FilesView
   pub faults : ℕ × ℕ
   pub ahead : IsReadAhead (wanted_by (form_of words)) fails_at faults holds read
-  pub run : IsRun destination words (record { files = (read, last); out = o.out; err = o.err; marks = o.marks; nets = o.nets; spawner = o.spawner; packets = o.packets }) code peer
+  pub run : IsRun destination words (record { files = (read, last); out = o.out; err = o.err; marks = o.marks; nets = o.nets; spawner = o.spawner; packets = o.packets }) code whom
 
 -- Either was it, or there was no memory.
-abbrev pub RunsOver : Destination → (words : List (List ℕ)) → (fails_at : List ℕ → Type 0) → (holds : Contents) → Streams → (code : ℕ) → (peer : Option (List ℕ)) → Type 0
-RunsOver destination words fails_at holds o code peer = IsRunOver destination words fails_at holds o code peer ⊎ WantsMemory o code peer
+abbrev pub RunsOver : Destination → (words : List (List ℕ)) → (fails_at : List ℕ → Type 0) → (holds : Contents) → Streams → (code : ℕ) → (whom : Named) → Type 0
+RunsOver destination words fails_at holds o code whom = IsRunOver destination words fails_at holds o code whom ⊎ WantsMemory o code whom

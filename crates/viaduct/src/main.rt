@@ -4,7 +4,7 @@
 
 mod program;
 
-use program::{Ending, Ran, destination_of, end, reason_of, run_over, words_of};
+use program::{Ending, Named, Ran, destination_of, end, reason_of, run_over, words_of};
 use std::alloc::Global;
 use std::env::{Env, VarError};
 use std::io::{IsTerminal, Stderr, Stdout};
@@ -14,8 +14,8 @@ use std::{env, fs, io, process};
 use vd_base::{Bytes, Name, Texts};
 use vd_channel_net::SealedNet;
 use vd_cmd_driver::{
-    host_numbered, speaker_of, tell_reason, text_of_first, text_of_packets, text_of_peer,
-    text_of_seal, text_of_sent,
+    speaker_of, tell_reason, text_of_first, text_of_packets, text_of_peer, text_of_seal,
+    text_of_sent,
 };
 use vd_cmd_plan::Status;
 use vd_diag_terminal::Destination;
@@ -127,20 +127,26 @@ fn tell_peer(
     }
 }
 
+/// The name of the host with this number, where the status of a run names its hosts.
+fn host_numbered(named: &Named, number: usize) -> Option<&[u8]> {
+    match named {
+        Named::Hosts(names) => match names.as_slice().get(number) {
+            Some(name) => Some(name.as_slice()),
+            None => None,
+        },
+        Named::Peer(_) | Named::Nobody => None,
+    }
+}
+
 /// Tells which host of a run was the first to end with a fault.
 fn tell_first(
     alloc: Global,
-    words: &Texts,
-    files: &mut Option<KeptFiles<SystemDirectory<HostRuntime>>>,
+    named: &Named,
     err: &mut RealSink<Stderr>,
     number: usize,
     status: u32,
 ) {
-    let host = match files {
-        Some(files) => host_numbered(alloc, words, files, number),
-        None => None,
-    };
-    if let Ok(text) = text_of_first(alloc, bytes_of(&host), number, status) {
+    if let Ok(text) = text_of_first(alloc, host_numbered(named, number), number, status) {
         tell_reason(alloc, None, err, text.as_slice());
     }
 }
@@ -148,8 +154,7 @@ fn tell_first(
 /// Tells why a program could not be started, and else which host of a run was the first to end with a fault, where that is known.
 fn tell_children(
     alloc: Global,
-    words: &Texts,
-    files: &mut Option<KeptFiles<SystemDirectory<HostRuntime>>>,
+    named: &Named,
     err: &mut RealSink<Stderr>,
     spawner: &mut RealSpawner<HostRuntime>,
 ) {
@@ -157,7 +162,7 @@ fn tell_children(
     tell_text(alloc, &None, err, spawner.reason());
     if started {
         if let Some((number, status)) = spawner.first_failure() {
-            tell_first(alloc, words, files, err, number, status);
+            tell_first(alloc, named, err, number, status);
         }
     }
 }
@@ -264,6 +269,14 @@ fn tell_marks(
     }
 }
 
+/// The peer that the status of a run names.
+fn peer_of(named: &Named) -> Option<&Name> {
+    match named {
+        Named::Peer(name) => Some(name),
+        Named::Hosts(_) | Named::Nobody => None,
+    }
+}
+
 /// Tells why a link failed, where that is known.
 fn tell_links(
     alloc: Global,
@@ -304,8 +317,8 @@ fn tell_fault(
     tell_text(alloc, &host, err, reason_of(files));
     tell_written(alloc, &host, err, out);
     tell_marks(alloc, &host, err, marks, ending.code);
-    tell_links(alloc, &host, err, net, ending.peer.as_ref());
-    tell_children(alloc, words, files, err, spawner);
+    tell_links(alloc, &host, err, net, peer_of(&ending.named));
+    tell_children(alloc, &ending.named, err, spawner);
 }
 
 /// Says what is known of how a run ended besides its code.

@@ -5,11 +5,11 @@ ghost use Rattle.std.specs.Process.{exit_status};
 ghost use Rattle.vd_cmd_host.specs.Hosts.{nets_of};
 ghost use Rattle.vd_cmd_plan.specs.Lines.{Says, code_of, status_line};
 ghost use Rattle.vd_diag_terminal.specs.declared.telling.Destination.TheVariants.{File, Terminal};
-ghost use Rattle.viaduct.specs.Program.{IsRun, RunsOver, peer_of};
+ghost use Rattle.viaduct.specs.Program.{IsRun, RunsOver, named_of};
 
 use std::alloc::{AllocError, Global};
 use std::process::ExitCode;
-use vd_base::{Name, Texts};
+use vd_base::{Name, Names, Texts};
 use vd_channel_net::SealedNet;
 use vd_cmd_driver::read_ahead;
 use vd_cmd_plan::{HostStatus, Status, tell};
@@ -58,21 +58,32 @@ fn exit_code(status: &Status) -> ExitCode
     ExitCode::from(status.code())
 }
 
-/// The peer that a status names.
-fn peer_of(status: Status) -> Option<Name>
-    ensures { result ≡ peer_of status }
+/// Whom a status names: the peer of a host, or the hosts of a run.
+#[derive(Drop)]
+pub(crate) enum Named {
+    Nobody,
+    Peer(Name),
+    Hosts(Names),
+}
+
+/// Whom a status names.
+fn named_of(status: Status) -> Named
+    ensures { result ≡ named_of status }
 {
     match status {
-        Status::Host(HostStatus::PeerFault(name) | HostStatus::EndOfLink(name)) => Some(name),
-        _ => None,
+        Status::Host(HostStatus::PeerFault(name) | HostStatus::EndOfLink(name)) => Named::Peer(
+            name,
+        ),
+        Status::ChildFault(names, _) => Named::Hosts(names),
+        _ => Named::Nobody,
     }
 }
 
-/// How a run ended: the code of its status, the peer that the status names, and how many packets the hosts of a `replay` sent.
+/// How a run ended: the code of its status, whom the status names, and how many packets the hosts of a `replay` sent.
 #[derive(Drop)]
 pub(crate) struct Ending {
     pub code: ExitCode,
-    pub peer: Option<Name>,
+    pub named: Named,
     pub packets: Option<u64>,
 }
 
@@ -99,7 +110,7 @@ fn run_program<F: Files, M: Marks, O: Sink, E: Sink, N: Net + Drop, S: Spawner>(
       nets = (nets_of (N.view net.old.net) net.old.ledger net.old.faults, nets_of (N.view net.new.net) net.new.ledger net.new.faults);
       spawner = (S.view spawner.old, S.view spawner.new);
       packets = result.packets;
-    }) (exit_status result.code) result.peer }
+    }) (exit_status result.code) result.named }
 {
     let mut packets = None;
     let status = start(
@@ -118,7 +129,7 @@ fn run_program<F: Files, M: Marks, O: Sink, E: Sink, N: Net + Drop, S: Spawner>(
     let _ = say_more(alloc, destination, words, files, err, &status);
     Ending {
         code: exit_code(&status),
-        peer: peer_of(status),
+        named: named_of(status),
         packets,
     }
 }
@@ -169,7 +180,7 @@ pub(crate) fn run_over<D: Directory + Drop, M: Marks, O: Sink, E: Sink, N: Net +
       nets = (nets_of (N.view net.old.net) net.old.ledger net.old.faults, nets_of (N.view net.new.net) net.new.ledger net.new.faults);
       spawner = (S.view spawner.old, S.view spawner.new);
       packets = result.ending.packets;
-    }) (exit_status result.ending.code) result.ending.peer }
+    }) (exit_status result.ending.code) result.ending.named }
 {
     match read_ahead(alloc, words, files) {
         Ok(mut files) => {
@@ -192,7 +203,7 @@ pub(crate) fn run_over<D: Directory + Drop, M: Marks, O: Sink, E: Sink, N: Net +
         Err(_) => Ran {
             ending: Ending {
                 code: end(alloc, err, &Status::Memory),
-                peer: None,
+                named: Named::Nobody,
                 packets: None,
             },
             files: None,

@@ -9,5 +9,5 @@ returns g c = record {
   said = c.say_more.result;
   more = c.say_more.ensures;
   ends = c.exit_code.ensures;
-  named = c.peer_of.ensures;
+  named = c.named_of.ensures;
 }
