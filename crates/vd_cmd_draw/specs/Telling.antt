@@ -27,7 +27,7 @@ pub record TellsDrawing (name : List ℕ) (contents : Contents) (printed : List 
   pub assignment : Assignment
   pub selected : IsSelected program assignment
   pub picture : printed ≡ drawn name held.bytes program selected.labels assignment.protocols
-  pub costs : rows_cost (rows_of held.bytes program selected.labels assignment.protocols) ≡ assignment.cost
+  pub costs : rows_cost (rows_of held.bytes program assignment.protocols) ≡ assignment.cost
 
 -- so does its plan, whatever functions pick outcomes and whatever a search answers
 abbrev pub DrawingsTell : Type 0
