@@ -9,27 +9,27 @@ use Rattle.vd_cmd_excuse.proofs.Answered.{answer_at, checks_at, explained, not_e
 use Rattle.vd_cmd_excuse.proofs.excuse_command.excuse_free.Goals as goal
 
 pub excused-requires-clause-runnable : goal.excused-requires-clause-runnable
-excused-requires-clause-runnable c = can_run c.args.program.now c.args.assignment.now c.form.ensures.well_made c.form.ensures.fit c.requires.selected c.as_slice-protocols.result.now c.as_slice-protocols.ensures
+excused-requires-clause-runnable c = can_run c.args.program.now c.args.assignment.now c.form-form.ensures.well_made c.form-form.ensures.fit c.requires.selected c.as_slice-protocols.result.now c.as_slice-protocols.ensures
 
 pub excused-requires-clause-asked : goal.excused-requires-clause-asked
 excused-requires-clause-asked c = are_asked c.args.runs c.requires.runs.read c.requires.runs.deals
 
 pub answer-requires-clause-runnable : goal.answer-requires-clause-runnable
-answer-requires-clause-runnable c = can_run c.args.program.now c.args.assignment.now c.form.ensures.well_made c.form.ensures.fit c.requires.selected c.as_slice-protocols.result.now c.as_slice-protocols.ensures
+answer-requires-clause-runnable c = can_run c.args.program.now c.args.assignment.now c.form-form.ensures.well_made c.form-form.ensures.fit c.requires.selected c.as_slice-protocols.result.now c.as_slice-protocols.ensures
 
 pub answer-requires-clause-playable : goal.answer-requires-clause-playable
 answer-requires-clause-playable c =
-    let two = chosen_two c.args.program.now c.args.assignment.now c.form.ensures.well_made c.form.ensures.fit c.requires.selected c.requires.host.two c.requires.free in
+    let two = chosen_two c.args.program.now c.args.assignment.now c.form-form.ensures.well_made c.form-form.ensures.fit c.requires.selected c.requires.host.two c.requires.free in
     let excused_at = rw c.as_slice-protocols.ensures at (c.in_ok-stored.ensures {u = tt}).excused in
     subst (λ (ps : List Proto). IsPlayable c.args.program.now ps c.args.runs.first c.args.runs.deals) (sym c.as_slice-protocols.ensures)
-    (playable c.args.program.now c.args.assignment.now c.form.ensures.well_made c.form.ensures.fit c.requires.selected c.requires.host.two c.requires.free c.args.host c.args.runs c.requires.runs.read c.requires.runs.deals c.in_ok-stored.stored
+    (playable c.args.program.now c.args.assignment.now c.form-form.ensures.well_made c.form-form.ensures.fit c.requires.selected c.requires.host.two c.requires.free c.args.host c.args.runs c.requires.runs.read c.requires.runs.deals c.in_ok-stored.stored
     (excused_at c.requires.selected.labels two))
 
 pub returns-in_err-stored-clause-executes : goal.returns-in_err-stored-clause-executes
 returns-in_err-stored-clause-executes c = λ l valid files.
     let p = err_from_is_err_and c.from_residual.result c.from_residual.ensures.1 in
     let same = c.as_slice-protocols.ensures in
-    let two = seen_two c.args.program.now c.args.assignment.now c.form.ensures.well_made c.form.ensures.fit c.requires.selected c.requires.host.two c.requires.free l valid c.as_slice-protocols.result.now same in
+    let two = seen_two c.args.program.now c.args.assignment.now c.form-form.ensures.well_made c.form-form.ensures.fit c.requires.selected c.requires.host.two c.requires.free l valid c.as_slice-protocols.result.now same in
     let checks = checks_at c.args.program.now c.args.host c.args.runs c.args.assignment.now.protocols c.as_slice-protocols.result.now same l (Err c.in_err-stored.field-0.0) ((c.in_err-stored.ensures {u = tt}).checks l two) in
     rw (p.1, p.2) (not_excused c.args.program.now c.args.host c.args.runs c.args.out.now l c.args.assignment.now.protocols c.in_err-stored.field-0.0 checks files)
 
@@ -40,15 +40,15 @@ returns-in_err-answer-clause-executes c = λ l valid files.
 pub returns-clause-executes : goal.returns-clause-executes
 returns-clause-executes c = λ l valid.
     let same = c.as_slice-protocols.ensures in
-    let two = seen_two c.args.program.now c.args.assignment.now c.form.ensures.well_made c.form.ensures.fit c.requires.selected c.requires.host.two c.requires.free l valid c.as_slice-protocols.result.now same in
+    let two = seen_two c.args.program.now c.args.assignment.now c.form-form.ensures.well_made c.form-form.ensures.fit c.requires.selected c.requires.host.two c.requires.free l valid c.as_slice-protocols.result.now same in
     let checks = checks_at c.args.program.now c.args.host c.args.runs c.args.assignment.now.protocols c.as_slice-protocols.result.now same l (Ok c.in_ok-stored.stored) ((c.in_ok-stored.ensures {u = tt}).checks l two) in
     explained c.args.program.now c.args.host c.args.runs c.args.out.now l c.args.assignment.now.protocols c.in_ok-stored.stored c.in_ok-answer.answer checks
     (answer_at c.args.program.now c.args.host c.args.runs c.args.assignment.now.protocols c.as_slice-protocols.result.now same c.args.out.now c.in_ok-stored.stored c.as_slice.result.now c.in_ok-answer.answer c.as_slice.ensures (c.in_ok-answer.ensures {u = tt}))
 
 pub returns-clause-tells : goal.returns-clause-tells
 returns-clause-tells c = λ name named e.
-    let two = chosen_two c.args.program.now c.args.assignment.now c.form.ensures.well_made c.form.ensures.fit c.requires.selected c.requires.host.two c.requires.free in
+    let two = chosen_two c.args.program.now c.args.assignment.now c.form-form.ensures.well_made c.form-form.ensures.fit c.requires.selected c.requires.host.two c.requires.free in
     let excused_at = rw c.as_slice-protocols.ensures at (c.in_ok-stored.ensures {u = tt}).excused in
-    told c.args.program.now c.args.assignment.now c.form.ensures.well_made c.form.ensures.fit c.requires.selected c.requires.host.two c.requires.free c.args.host c.requires.host.one c.args.runs c.requires.runs.read c.requires.runs.deals
+    told c.args.program.now c.args.assignment.now c.form-form.ensures.well_made c.form-form.ensures.fit c.requires.selected c.requires.host.two c.requires.free c.args.host c.requires.host.one c.args.runs c.requires.runs.read c.requires.runs.deals
     c.in_ok-stored.stored (excused_at c.requires.selected.labels two) c.args.out.now name named c.in_ok-answer.answer
     (answer_at c.args.program.now c.args.host c.args.runs c.args.assignment.now.protocols c.as_slice-protocols.result.now c.as_slice-protocols.ensures c.args.out.now c.in_ok-stored.stored c.as_slice.result.now c.in_ok-answer.answer c.as_slice.ensures (c.in_ok-answer.ensures {u = tt}))

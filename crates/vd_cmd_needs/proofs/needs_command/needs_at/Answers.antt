@@ -6,7 +6,7 @@ use Rattle.vd_cmd_needs.proofs.Told.{needs_told, prints}
 use Rattle.vd_cmd_needs.proofs.needs_command.needs_at.Goals as goal
 
 pub needs_text-requires : goal.needs_text-requires
-needs_text-requires c = can_run c.args.program.now c.args.assignment.now c.form.ensures.well_made c.form.ensures.fit c.requires c.as_slice-protocols.result.now c.as_slice-protocols.ensures
+needs_text-requires c = can_run c.args.program.now c.args.assignment.now c.form-form.ensures.well_made c.form-form.ensures.fit c.requires c.as_slice-protocols.result.now c.as_slice-protocols.ensures
 
 pub returns-clause-computes : goal.returns-clause-computes
 returns-clause-computes c =
@@ -15,5 +15,5 @@ returns-clause-computes c =
 
 pub returns-clause-tells : goal.returns-clause-tells
 returns-clause-tells c =
-    needs_told c.args.each c.args.program.now c.args.assignment.now c.form.ensures.well_made c.form.ensures.fit c.requires c.printing.result c.in_ok-printed.printed
+    needs_told c.args.each c.args.program.now c.args.assignment.now c.form-form.ensures.well_made c.form-form.ensures.fit c.requires c.printing.result c.in_ok-printed.printed
     c.as_slice-protocols.result.now c.printing.ensures (c.in_ok-printed.ensures {u = tt}) c.as_slice-protocols.ensures
