@@ -11,8 +11,8 @@ returns-in-None-clause-checks c = λ least. record {
   err = tt;
 }
 
-pub returns-in-Some-clause-checks : goal.returns-in-Some-clause-checks
-returns-in-Some-clause-checks c = λ least. record {
+pub returns-clause-checks : goal.returns-clause-checks
+returns-clause-checks c = λ least. record {
   ok = tt;
   err = none_found least c.args.program.now c.in_ok-collected.collected.system c.in_ok-collected.ensures.system c.checks-checks.ensures.valid c.in-Some.number c.in_ok-solution.solution c.checks-checks.result.now c.as_slice-origins.result.now c.form.result.now
       c.in_ok-fault-in-Some.fault c.in-Some.ensures c.in_ok-solution.ensures c.checks-checks.ensures.same (c.as_slice-origins.ensures ∙ c.in_ok-collected.ensures.origins) c.form.ensures.same c.in_ok-fault-in-Some.ensures;
