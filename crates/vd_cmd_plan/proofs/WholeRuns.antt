@@ -172,6 +172,43 @@ deliver_cut given before now out_before out_now e p w = record {
   unwritten = λ e f. absurd (f w.failed);
 }
 
+deliver_none : (given : Answer) (before now : FilesView) (out : SinkView) (status : Status) → StoresAll given.stores before now (Err status) → Delivers given before now out out status
+deliver_none given before now out Memory p = record {
+  later = p.later;
+  out_later = omega arith;
+  ends = tt;
+  fault = λ e. absurd (cc e);
+  cause = λ t e. absurd (cc e);
+  still_told = p.still_told;
+  front = p.front;
+  whole = λ t end. absurd end;
+  contents = λ t end. absurd end;
+  part = p.part;
+  was_told = λ t. t;
+  left = λ o. refl;
+  unwritten = λ e f. absurd (cc e);
+}
+deliver_none given before now out WriteFault p = record {
+  later = p.later;
+  out_later = omega arith;
+  ends = tt;
+  fault = λ e. inl (p.fault refl);
+  cause = λ t e. inl (p.fault refl, p.last t refl);
+  still_told = p.still_told;
+  front = p.front;
+  whole = λ t end. absurd end;
+  contents = λ t end. absurd end;
+  part = p.part;
+  was_told = λ t. t;
+  left = λ o. (0, sym (append-nil out.taken));
+  unwritten = λ e f. refl;
+}
+deliver_none given before now out other p = absurd p.ends
+
+-- a store failed, and nothing was written
+pub not_stored : (given : Answer) (stores : List Stored) (before now : FilesView) (out : SinkView) (status : Status) → stores ≡ given.stores → StoresAll stores before now (Err status) → Delivers given before now out out status
+not_stored given stores before now out status same p = deliver_none given before now out status (subst (λ (l : List Stored). StoresAll l before now (Err status)) same p)
+
 -- the stores stand, and a write failed
 pub cut : {E : Type 0} (given : Answer) (stores : List Stored) (printed : List ℕ) (before now : FilesView) (out_before out_now : SinkView) (e : E) → stores ≡ given.stores → printed ≡ given.printed → StoresAll stores before now (Ok tt) → WritesAll {E = E} printed out_before out_now (Err e) → Delivers given before now out_before out_now WriteFault
 cut {E = E} given stores printed before now out_before out_now e same_stores same_printed p w = deliver_cut {E = E} given before now out_before out_now e
