@@ -6,6 +6,7 @@ use Rattle.std.proofs.lemmas.Map.Keys.{IsDistinct-head, IsDistinct-tail}
 use Rattle.std.specs.Prelude.{flat_map}
 use Rattle.std.specs.List.{AllByRecursion, IsDistinct, list_all, range_with_len, sum}
 use Rattle.std.specs.Str.{bytes_eq}
+use Rattle.vd_base.specs.Words.{IsWord}
 use Rattle.vd_base.specs.declared.protocols.Proto.{Proto}
 use Rattle.vd_base.specs.HostSets.{host}
 use Rattle.vd_base.specs.Lexical.{is_name}
@@ -186,7 +187,7 @@ module _ (program : NormalForm) (protocols : List Proto) (plan : Digest) (h : �
       let le = file_short (with_code (text code [])) (51 * (2043 * 512)) can.digest.0 (own_word h hosts can.declared can.runs.made.limits.hosts) names (bounded _ _ lines few_lines) in
       within_file _ le
     where
-      own_word : (h n : ℕ) → h < n → n ≤ 4 → h ≤ 4294967295
+      own_word : (h n : ℕ) → h < n → n ≤ 4 → IsWord h
       own_word h n lt le = omega (arith, lt, le)
 
       bounded : (b k : ℕ) → b ≤ 51 * k → k ≤ 2043 * 512 → b ≤ 51 * (2043 * 512)
