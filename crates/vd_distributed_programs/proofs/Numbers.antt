@@ -1,6 +1,7 @@
 -- The numbers in a host's file are words, so those of its code are.
-use Rattle.std.proofs.Common.{◌<◌, ◌≤◌, ◌^◌, ℕ, List, [], ◌∷◌, Option, Some, None, subst, arith, map}
+use Rattle.std.proofs.Common.{◌<◌, ◌^◌, ℕ, List, [], ◌∷◌, Option, Some, None, subst, arith, map}
 use Rattle.std.specs.List.{AllByRecursion}
+use Rattle.vd_base.specs.Words.{IsWord}
 use Rattle.vd_execution.specs.declared.instructions.Action.{Action}
 use Rattle.vd_execution.specs.declared.instructions.Action.TheVariants as action
 use Rattle.vd_execution.specs.declared.instructions.Instr.{Instr}
@@ -21,11 +22,11 @@ abbrev AreSmall : List Instr → Type 0
 AreSmall [] = Unit {0}
 AreSmall (i ∷ is) = IsSmall i × AreSmall is
 
-action_small : (a : Action) → AllByRecursion (λ n. n ≤ 4294967295) (operands (instr.Do a)) → NumberIsWord a
+action_small : (a : Action) → AllByRecursion IsWord (operands (instr.Do a)) → NumberIsWord a
 action_small (action.Const r k) w = let k_is = w.1.0 in omega (arith, k_is)
 action_small a w = tt
 
-small : (i : Instr) → AllByRecursion (λ n. n ≤ 4294967295) (operands i) → IsSmall i
+small : (i : Instr) → AllByRecursion IsWord (operands i) → IsSmall i
 small (instr.Do a) w = action_small a w
 small (instr.Send p rs) w = tt
 small (instr.Recv p rs) w = tt

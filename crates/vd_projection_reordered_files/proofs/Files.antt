@@ -3,6 +3,7 @@ use Rattle.std.proofs.Common.{◌≡◌, ℕ, ◌+◌, ◌*◌, ◌<◌, ◌≤�
 use Rattle.std.proofs.lemmas.Bool.{cases_lt}
 use Rattle.std.specs.Prelude.{flat_map}
 use Rattle.std.specs.List.{sum}
+use Rattle.vd_base.specs.Words.{IsWord}
 use Rattle.vd_base.specs.declared.protocols.Proto.{Proto}
 use Rattle.vd_base.specs.HostSets.{host}
 use Rattle.vd_base.specs.Holders.{proto_in}
@@ -148,7 +149,7 @@ module _ (program : NormalForm) (protocols : List Proto) (plan : Digest) (h : �
         (bounded _ _ _ lines no_more.bulk few_lines) in
         within_file _ le
       where
-        own_word : (h n : ℕ) → h < n → n ≤ 4 → h ≤ 4294967295
+        own_word : (h n : ℕ) → h < n → n ≤ 4 → IsWord h
         own_word h n lt le = omega (arith, lt, le)
 
         bounded : (b k m : ℕ) → b ≤ 51 * k → k ≤ m → m ≤ 2043 * 512 → b ≤ 51 * (2043 * 512)
