@@ -76,7 +76,7 @@ pub fn load_source<F: Files>(alloc: Global, files: &mut F, name: &str) -> Result
 }
 
 /// The names of the hosts, in order.
-pub fn names_of_hosts(alloc: Global, source: &Source) -> Result<Names, AllocError>
+pub(crate) fn names_of_hosts(alloc: Global, source: &Source) -> Result<Names, AllocError>
     ensures { IfOk result (λ names. names ≡ host_names source.now.hosts) }
 {
     let mut names = Names::new(alloc);
