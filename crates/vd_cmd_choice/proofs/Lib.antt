@@ -1,5 +1,4 @@
 pub mod Front
-mod Labelled
 mod Certificates
 mod ReadPrograms
 mod Chosen

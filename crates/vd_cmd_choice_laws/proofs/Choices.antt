@@ -38,7 +38,7 @@ use Rattle.vd_space.specs.Costs.{cost}
 use Rattle.vd_space.specs.Reading.{problem_of}
 use Rattle.vd_space.specs.Spaces.{IsProblem}
 use Rattle.vd_space.specs.Validity.{protocols}
-use Rattle.vd_space.proofs.Front.{few_in, is_labelled, is_problem}
+use Rattle.vd_space.proofs.Front.{few_in, has_labels, is_labelled, is_problem}
 use Rattle.vd_cmd_plan.specs.Labelled.{LabelledForm, labelled_form}
 use Rattle.vd_cmd_plan.specs.Deliver.{stored}
 use Rattle.vd_cmd_plan.specs.Plans.{Plan, answer_then, check_then, ended}
@@ -54,7 +54,6 @@ use Rattle.vd_cmd_choose.specs.Choosing.{certificate_file, choice_answer, chosen
 use Rattle.vd_cmd_choice.specs.Searching.{Certified, GaveUp, Searched, is_accepted, searched_by}
 use Rattle.vd_cmd_choice.specs.Outcomes.{CertificateOutcomes}
 use Rattle.vd_cmd_choose.specs.Problems.{problem_for}
-use Rattle.vd_cmd_choice.proofs.Front.{has_labels}
 use Rattle.vd_cmd_choice_laws.specs.Answers.{IsCertified, TellsAssignment, TellsChoice, least_line}
 use Rattle.vd_cmd_choice_laws.specs.Laws.{ChoicesTell}
 use Rattle.vd_cmd_choice_laws.proofs.Plans.{Ends, Leads, NeverEnds, answered, check_came, check_leads, ends_as, file_leads}

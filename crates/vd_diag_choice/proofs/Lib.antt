@@ -1,4 +1,3 @@
 mod Candidates
 mod Told
-mod Labelled
 mod Searched

@@ -3,6 +3,7 @@ pub use Rattle.vd_space.proofs.Tests.{all_parts, all_passes, each_both, each_lea
 pub use Rattle.vd_space.proofs.Candidates.{listed_at, stands_have}
 pub use Rattle.vd_space.proofs.Kept.{IsValid, part_kept, parts_of, valid_kept, valid_listed}
 pub use Rattle.vd_space.proofs.Least.{AtLeast, AtMost, found_high, found_low, high_some, least_high, least_low, low_some, max_above, max_same, only_high, only_low}
+pub use Rattle.vd_space.proofs.LeastLabelled.{has_labels}
 pub use Rattle.vd_space.proofs.Terms.{HasPair, IsAt, is_listed, one_is, pair_is, total_low, total_same}
 unfoldable pub use Rattle.vd_space.proofs.Terms.{sum_at}
 pub use Rattle.vd_space.proofs.Valued.{decided, each_append, each_below, each_map, indexes_have, terms_have, weigh_some}

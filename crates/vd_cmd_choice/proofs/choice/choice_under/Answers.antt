@@ -5,7 +5,7 @@ use Rattle.vd_space.specs.Spaces.{IsProblem}
 use Rattle.vd_space.specs.Usual.{usual}
 use Rattle.vd_search_stages.specs.Selecting.{IsOver}
 use Rattle.vd_cmd_choice.proofs.Chosen.{found_by, found_is, no_memory, spent}
-use Rattle.vd_cmd_choice.proofs.Labelled.{has_labels}
+use Rattle.vd_space.proofs.Front.{has_labels}
 use Rattle.vd_cmd_choice.proofs.choice.choice_under.Goals as goal
 
 pub of-requires : goal.of-requires

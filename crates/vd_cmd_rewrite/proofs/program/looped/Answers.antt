@@ -1,5 +1,6 @@
 use Rattle.vd_long.specs.Marks.{lengthen_of}
-use Rattle.vd_cmd_rewrite.proofs.Steps.{under_new, under_same, has_labels}
+use Rattle.vd_space.proofs.Front.{has_labels}
+use Rattle.vd_cmd_rewrite.proofs.Steps.{under_new, under_same}
 use Rattle.vd_cmd_rewrite.proofs.program.looped.Goals as goal
 
 pub lengthen_labelled-requires : goal.lengthen_labelled-requires

@@ -1,4 +1,4 @@
-use Rattle.vd_diag_choice.proofs.Labelled.{has_labels}
+use Rattle.vd_space.proofs.Front.{has_labels}
 use Rattle.vd_diag_choice.proofs.spaces.space_for.Goals as goal
 
 pub of-requires : goal.of-requires
