@@ -1,14 +1,14 @@
 -- A program at protocols over its hosts at which it is valid is one that the splitter can be asked for.
-use Rattle.std.proofs.Common.{◌≡◌, ℕ, ◌<◌, nat_lt, nat_eq, Bool, true, false, ◌&&◌, if◌then◌else◌, Option, Some, None, is_some, List, [], ◌∷◌, length, map, refl, ap, ◌∙◌, arith}
+use Rattle.std.proofs.Common.{◌≡◌, ℕ, ◌<◌, nat_lt, nat_eq, Bool, true, false, ◌&&◌, if◌then◌else◌, Option, Some, None, is_some, List, [], ◌∷◌, length, map, refl, sym, ap, ◌∙◌, arith}
 use Rattle.std.specs.List.{list_all}
-use Rattle.std.proofs.lemmas.Bool.{and_from}
+use Rattle.std.proofs.lemmas.Bool.{and_from, eq-eqb, eqb-true}
 use Rattle.std.proofs.lemmas.Bool.Decides.{nat_tests}
 use Rattle.vd_base.specs.declared.ids.HostId.{HostId}
 use Rattle.vd_base.specs.declared.operations.Op.{Op}
 use Rattle.vd_base.specs.declared.protocols.Proto.{Proto}
 use Rattle.vd_base.specs.declared.protocols.Proto.TheVariants.{Local, Rep, Commit, Add, Xor}
 use Rattle.vd_base.specs.declared.rows.Row.TheVariants.{Input as InputRow, Apply as ApplyRow}
-use Rattle.vd_base.specs.Holders.{holders, proto_in}
+use Rattle.vd_base.specs.Holders.{holders, is_alone, proto_in}
 use Rattle.vd_core.specs.declared.normal.Right.{Right}
 use Rattle.vd_core.specs.declared.normal.Right.TheVariants.{Lit, Turn, Copy, Apply, Input, Declassify, Endorse, Load, Get}
 use Rattle.vd_core.specs.declared.normal.Stmt.{Stmt}
@@ -19,7 +19,7 @@ use Rattle.vd_duet.specs.Laws.{Each}
 use Rattle.vd_choreography.specs.Block.{Block, End, Let, NewVar, NewArray, Store, Put, Output, If, For, block_of, each}
 use Rattle.vd_choreography.specs.Validity.{Placed, RightPlaced}
 use Rattle.vd_choreography.proofs.Front.{fold_each}
-use Rattle.vd_split.specs.Offer.{is_at_host, right_stands, stmt_stands}
+use Rattle.vd_split.specs.Offer.{right_stands, stmt_stands}
 use Rattle.vd_backend_laws.specs.Machine.{machine}
 use Rattle.vd_backend_laws.specs.Parts.{back_end}
 use Rattle.vd_backend_laws.specs.Suite.{holds, suite}
@@ -38,8 +38,8 @@ wrong e = absurd (no e)
     no : false ≡ true → ⊥
     no e = cc
 
-input_at_host : (h : HostId) (q : Proto) → holds (InputRow h) q ≡ true → is_at_host h q ≡ true
-input_at_host h (Local k) e = at (nat_eq h.0 k.0) e
+input_at_host : (h : HostId) (q : Proto) → holds (InputRow h) q ≡ true → is_alone h q ≡ true
+input_at_host h (Local k) e = eq-eqb k.0 h.0 (sym (eqb-true h.0 k.0 (at (nat_eq h.0 k.0) e)))
   where
     at : (b : Bool) → is_some (let o : Option ℕ = if b then Some 0 else None in o) ≡ true → b ≡ true
     at true e = refl

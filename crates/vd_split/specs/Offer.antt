@@ -1,5 +1,5 @@
 -- What protocols offer to the splitter, and what it owes them.
-use Rattle.std.specs.Prelude.{◌≡◌, ℕ, ◌+◌, ◌<◌, ◌≤◌, nat_eq, nat_lt, Bool, true, false, ◌&&◌, IsTrue, List, [], ◌∷◌, length, map, slice_index_or}
+use Rattle.std.specs.Prelude.{◌≡◌, ℕ, ◌+◌, ◌<◌, ◌≤◌, nat_eq, nat_lt, Bool, true, ◌&&◌, IsTrue, List, [], ◌∷◌, length, map, slice_index_or}
 use Rattle.std.specs.List.{list_all}
 use Rattle.vd_base.specs.declared.ids.HostId.{HostId}
 use Rattle.vd_base.specs.declared.ids.SlotId.{SlotId}
@@ -9,7 +9,7 @@ use Rattle.vd_base.specs.declared.protocols.Proto.TheVariants.{Local}
 use Rattle.vd_base.specs.Arity.{arity}
 use Rattle.vd_base.specs.HostSets.{host}
 use Rattle.vd_base.specs.Limits.{most_hosts}
-use Rattle.vd_base.specs.Holders.{holders, proto_in}
+use Rattle.vd_base.specs.Holders.{holders, is_alone, proto_in}
 use Rattle.vd_core.specs.declared.normal.Right.{Right}
 use Rattle.vd_core.specs.declared.normal.Right.TheVariants as right
 use Rattle.vd_core.specs.declared.normal.Stmt.{Stmt}
@@ -83,15 +83,11 @@ loop_fit body n = let all = body n in record { all = all.all; after = all.after;
 abbrev pub tell_fit : ℕ → SlotId → HostId → Fitting
 tell_fit hosts x h n = record { all = has_parts n x && nat_lt h.0 hosts; after = n; taken = most_of_statement }
 
-abbrev pub is_at_host : HostId → Proto → Bool
-is_at_host h (Local k) = nat_eq h.0 k.0
-is_at_host h q = false
-
 module _ {P : Type 0} (o : Offer P) (protos : List Proto) where
   -- an operation is served at its protocol, and an input stands at its host
   abbrev pub right_stands : Proto → Right → Bool
   right_stands q (right.Apply op xs) = o.serves op q
-  right_stands q (right.Input h) = is_at_host h q
+  right_stands q (right.Input h) = is_alone h q
   right_stands q r = true
 
   abbrev pub stmt_stands : Stmt-F Bool → Bool
@@ -103,7 +99,7 @@ module _ {P : Type 0} (o : Offer P) (protos : List Proto) where
   right_fits q right.Turn n = true
   right_fits q (right.Copy x) n = has_parts n x
   right_fits q (right.Apply op xs) n = list_all (has_parts n) xs && nat_eq (length xs) (arity op) && o.serves op q
-  right_fits q (right.Input h) n = nat_lt h.0 o.calls.hosts && is_at_host h q
+  right_fits q (right.Input h) n = nat_lt h.0 o.calls.hosts && is_alone h q
   right_fits q (right.Declassify x to) n = has_parts n x
   right_fits q (right.Endorse x to) n = has_parts n x
   right_fits q (right.Load v) n = has_parts n v

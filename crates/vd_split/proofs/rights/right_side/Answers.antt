@@ -1,19 +1,19 @@
-use Rattle.std.proofs.Common.{◌≡◌, true, [], ap, subst}
+use Rattle.std.proofs.Common.{◌≡◌, true, [], sym, ap, subst}
 use Rattle.std.proofs.lemmas.Bool.{eqb-true}
 use Rattle.std.proofs.lemmas.Result.{IfOk-weaker}
 use Rattle.vd_base.specs.declared.ids.HostId.{HostId}
 use Rattle.vd_base.specs.declared.protocols.Proto.{Proto}
 use Rattle.vd_base.specs.declared.protocols.Proto.TheVariants.{Local, Rep, Commit, Add, Xor}
 use Rattle.vd_base.specs.HostSets.{host}
-use Rattle.vd_base.specs.Holders.{holders, proto_in}
+use Rattle.vd_base.specs.Holders.{holders, is_alone, proto_in}
 use Rattle.vd_choreography.proofs.Front.{and_right}
-use Rattle.vd_split.specs.Offer.{Offer, is_at_host}
+use Rattle.vd_split.specs.Offer.{Offer}
 use Rattle.vd_split.proofs.Turns.{apply_alike}
 use Rattle.vd_split.proofs.rights.right_side.Goals as goal
 
 -- parts at a host stand as they do at each protocol that is this host
-at_its_host : {P : Type 0} (o : Offer P) (h : HostId) (q : Proto) (x : P) → is_at_host h q ≡ true → o.hosts_at (Local h) x ≡ holders (Local h) → o.hosts_at q x ≡ holders q
-at_its_host o h (Local k) x e is = subst (λ (j : HostId). o.hosts_at (Local j) x ≡ holders (Local j)) (ap host (eqb-true h.0 k.0 e)) is
+at_its_host : {P : Type 0} (o : Offer P) (h : HostId) (q : Proto) (x : P) → is_alone h q ≡ true → o.hosts_at (Local h) x ≡ holders (Local h) → o.hosts_at q x ≡ holders q
+at_its_host o h (Local k) x e is = subst (λ (j : HostId). o.hosts_at (Local j) x ≡ holders (Local j)) (ap host (sym (eqb-true k.0 h.0 e))) is
 at_its_host o h (Rep set) x e is = cc
 at_its_host o h (Commit a b) x e is = cc
 at_its_host o h (Add a b) x e is = cc
