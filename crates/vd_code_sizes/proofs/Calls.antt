@@ -5,7 +5,7 @@ use Rattle.vd_base.specs.declared.ids.HostId.{HostId}
 use Rattle.vd_base.specs.declared.operations.Op.{Op}
 use Rattle.vd_base.specs.declared.protocols.Proto.{Proto}
 use Rattle.vd_base.specs.declared.protocols.Proto.TheVariants.{Local, Rep, Commit, Add, Xor}
-use Rattle.vd_base.specs.Holders.{holders}
+use Rattle.vd_base.specs.Holders.{HasHosts, holders}
 use Rattle.vd_base.proofs.Front.{few_holders}
 use Rattle.vd_execution.specs.declared.instructions.Reg.{Reg}
 use Rattle.vd_execution.specs.declared.instructions.Action.TheVariants as action
@@ -21,7 +21,7 @@ use Rattle.vd_backend_sharing.specs.PairCalls.{shares_of, at_hosts}
 use Rattle.vd_choreography.specs.Suite.{Made as AnyMade}
 use Rattle.vd_backend_laws.specs.Moves.{only, Route, Share, Adopt, Show, ShowAll, Spread, Same, SameBound, ToXor, ToAdd, copies_at, moved}
 use Rattle.vd_backend_laws.specs.Parts.{Parts, made_of, back_end, route, turn_part, turned, put_in, printed, zeros_at, new_cells, index_of, cell_read, cell_written}
-use Rattle.vd_code_sizes.specs.Fits.{IsLow, AreHere, GadgetFits, PlacesFit, PartsFit, WordMade, Room, CallsFit}
+use Rattle.vd_code_sizes.specs.Fits.{IsLow, GadgetFits, PlacesFit, PartsFit, WordMade, Room, CallsFit}
 use Rattle.vd_code_sizes.proofs.Bounds.{low_more, taken_low, places_more, RegFits, host_word}
 use Rattle.vd_code_sizes.proofs.Clear.{register_fits, written_fits, each_fits}
 use Rattle.vd_code_sizes.proofs.ClearCalls.{few_parts, each_length, word_fits, clear_fits, spread_fits}
@@ -60,7 +60,7 @@ module _ (hosts N : ℕ) where
 
   -- protocols are over the hosts that are there
   abbrev pub IsKnown : Proto → Type 0
-  IsKnown p = AreHere hosts (holders p)
+  IsKnown p = HasHosts hosts p
 
   -- ---- a call that makes a word
 
@@ -90,8 +90,8 @@ module _ (hosts N : ℕ) where
   RouteIsHere (Share h) q = h.0 < hosts
   RouteIsHere Adopt q = Unit {0}
   RouteIsHere (Show k) q = k.0 < hosts
-  RouteIsHere ShowAll q = (length (holders q.proto) ≤ 8) × AreHere hosts (holders q.proto)
-  RouteIsHere (Spread set) q = AreHere hosts (holders (Rep set))
+  RouteIsHere ShowAll q = (length (holders q.proto) ≤ 8) × HasHosts hosts q.proto
+  RouteIsHere (Spread set) q = HasHosts hosts (Rep set)
   RouteIsHere (Same a b) q = (a.0 < hosts) × (b.0 < hosts)
   RouteIsHere (SameBound a b) q = (a.0 < hosts) × (b.0 < hosts)
   RouteIsHere (ToXor a b) q = (a.0 < hosts) × (b.0 < hosts)
@@ -124,7 +124,7 @@ module _ (hosts N : ℕ) where
   copies_length [] x = refl
   copies_length (h ∷ hs) x = ap suc (copies_length hs x)
 
-  copies_fit : (hs : List HostId) → AreHere hosts hs → (x : Places) (n : ℕ) → 1 ≤ n → PlacesFit hosts 1 n x → PlacesFit hosts 1 n (copies_at hs x)
+  copies_fit : (hs : List HostId) → Each (λ (h : HostId). h.0 < hosts) hs → (x : Places) (n : ℕ) → 1 ≤ n → PlacesFit hosts 1 n x → PlacesFit hosts 1 n (copies_at hs x)
   copies_fit [] here x n le f = tt
   copies_fit (h ∷ hs) here x n le f = ((here.0, register_fits hosts N 1 n x h.0 le f), copies_fit hs here.1 x n le f)
 

@@ -5,14 +5,14 @@ use Rattle.vd_base.specs.declared.operations.Op.{Op}
 use Rattle.vd_base.specs.declared.protocols.HostSet.{HostSet}
 use Rattle.vd_base.specs.declared.protocols.Proto.{Proto}
 use Rattle.vd_base.specs.declared.protocols.Proto.TheVariants.{Rep}
-use Rattle.vd_base.specs.Holders.{holders}
+use Rattle.vd_base.specs.Holders.{HasHosts, holders}
 use Rattle.vd_execution.specs.declared.instructions.Reg.{Reg}
 use Rattle.vd_execution.specs.declared.instructions.Action.TheVariants as action
 use Rattle.vd_duet.specs.Calls.{Places, Made, register_of}
 use Rattle.vd_duet.specs.Laws.{Each}
 use Rattle.vd_clear.specs.Copies.{literal_at, passed, adopted, kept_by, applied_at, shown, each_made, clear_calls, spread_to}
 use Rattle.vd_base.proofs.Front.{few_holders}
-use Rattle.vd_code_sizes.specs.Fits.{IsLow, AreHere, PlacesFit, PartsFit, WordMade, Room, MoveFits, CallsFit}
+use Rattle.vd_code_sizes.specs.Fits.{IsLow, PlacesFit, PartsFit, WordMade, Room, MoveFits, CallsFit}
 use Rattle.vd_code_sizes.proofs.Bounds.{places_more, all_places, RegFits, host_word, stays}
 use Rattle.vd_code_sizes.proofs.Clear.{register_fits, written_fits, passed_fits, adopted_fits, applied_fits, shown_fits, each_fits, renewed_fits}
 
@@ -29,7 +29,7 @@ module _ (hosts N : ℕ) where
   enough m n k e f = omega (arith, e, f)
 
   -- what each host of a protocol makes
-  pub word_fits : (p : Proto) → AreHere hosts (holders p) → (f : HostId → List ℕ → Made Reg) (m n : ℕ) (next : List ℕ) → Room N m n next
+  pub word_fits : (p : Proto) → HasHosts hosts p → (f : HostId → List ℕ → Made Reg) (m n : ℕ) (next : List ℕ) → Room N m n next
       → ((h : HostId) → h.0 < hosts → (a b : ℕ) (l : List ℕ) → m ≤ a → a + 17 ≤ b → b ≤ N → IsLow a l → RegFits hosts N 1 b (f h l))
       → WordMade hosts N n (each_made f (holders p) next)
   word_fits p known f m n next room law =
@@ -44,7 +44,7 @@ module _ (hosts N : ℕ) where
       → RegFits hosts N 1 b (shown x h l)
   shown_word x m f h here a b l le e most low = shown_fits hosts N x h m a b l here f.at f.few le e most low
 
-  pub spread_fits : (set : HostSet) → AreHere hosts (holders (Rep set)) → MoveFits hosts N (spread_to set)
+  pub spread_fits : (set : HostSet) → HasHosts hosts (Rep set) → MoveFits hosts N (spread_to set)
   spread_fits set known x m n next f room = word_fits (Rep set) known (shown x) m n next room (shown_word x m f)
 
   literal_word : (v m : ℕ) (h : HostId) → h.0 < hosts → (a b : ℕ) (l : List ℕ) → m ≤ a → a + 17 ≤ b → b ≤ N → IsLow a l → RegFits hosts N 1 b (literal_at v h l)
@@ -72,7 +72,7 @@ module _ (hosts N : ℕ) where
       → RegFits hosts N 1 b (applied_at o xs h l)
   applied_word o xs m f h here a b l le e most low = applied_fits hosts N o xs h a b l (wider m a le xs (all_places hosts m xs f)) (omega (arith, e)) most low
 
-  pub clear_fits : (p : Proto) → AreHere hosts (holders p) → CallsFit hosts N (clear_calls p)
+  pub clear_fits : (p : Proto) → HasHosts hosts p → CallsFit hosts N (clear_calls p)
   clear_fits p known = record {
     literal = λ v m n next room. word_fits p known (literal_at v) m n next room (literal_word v m);
     share = λ from there x m n next below room. word_fits p known (passed from x) m n next room (passed_word from there x m below);

@@ -16,10 +16,6 @@ use Rattle.vd_commit.specs.declared.ends.Seen.{Seen}
 abbrev pub IsLow : ℕ → List ℕ → Type 0
 IsLow n next = (h : ℕ) → slice_index next h ≤ n
 
--- the hosts are among so many
-abbrev pub AreHere : ℕ → List HostId → Type 0
-AreHere hosts hs = Each (λ (h : HostId). h.0 < hosts) hs
-
 -- ---- acts
 
 -- one to nine words, in registers below the bound

@@ -4,7 +4,7 @@ use Rattle.vd_base.specs.declared.ids.HostId.{HostId}
 use Rattle.vd_base.specs.declared.protocols.HostSet.{HostSet}
 use Rattle.vd_base.specs.declared.protocols.Proto.{Proto}
 use Rattle.vd_base.specs.declared.protocols.Proto.TheVariants.{Rep}
-use Rattle.vd_base.specs.Holders.{holders}
+use Rattle.vd_base.specs.Holders.{HasHosts}
 use Rattle.vd_execution.specs.declared.instructions.Reg.{Reg}
 use Rattle.vd_clear.specs.Copies.{clear_calls, spread_to}
 use Rattle.vd_words.specs.AddCalls.{add_calls}
@@ -13,13 +13,13 @@ use Rattle.vd_convert.specs.Convert.{to_xor_made, to_add_made}
 use Rattle.vd_commit.specs.declared.ends.Held.{Held}
 use Rattle.vd_commit.specs.declared.ends.Seen.{Seen}
 use Rattle.vd_commit.specs.Commit.{committed, revealed}
-use Rattle.vd_code_sizes.specs.Fits.{AreHere, EndsMade, RegisterMade, Room, MoveFits, CallsFit}
+use Rattle.vd_code_sizes.specs.Fits.{EndsMade, RegisterMade, Room, MoveFits, CallsFit}
 
 abbrev pub ClearCallsFit : Type 0
-ClearCallsFit = (hosts bound : ℕ) (p : Proto) → AreHere hosts (holders p) → CallsFit hosts bound (clear_calls p)
+ClearCallsFit = (hosts bound : ℕ) (p : Proto) → HasHosts hosts p → CallsFit hosts bound (clear_calls p)
 
 abbrev pub SpreadingFits : Type 0
-SpreadingFits = (hosts bound : ℕ) (set : HostSet) → AreHere hosts (holders (Rep set)) → MoveFits hosts bound (spread_to set)
+SpreadingFits = (hosts bound : ℕ) (set : HostSet) → HasHosts hosts (Rep set) → MoveFits hosts bound (spread_to set)
 
 abbrev pub SumCallsFit : Type 0
 SumCallsFit = (hosts bound : ℕ) (a b : HostId) → a.0 < hosts → b.0 < hosts → CallsFit hosts bound (add_calls a b)
