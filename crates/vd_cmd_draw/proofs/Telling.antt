@@ -17,7 +17,7 @@ use Rattle.vd_search_stages.specs.Optimum.{assigned}
 use Rattle.vd_search_stages.proofs.Front.{optimal_at}
 use Rattle.vd_space.specs.declared.problem.Problem.{Problem}
 use Rattle.vd_space.specs.Reading.{problem_of}
-use Rattle.vd_space.proofs.Front.{as_many, is_problem}
+use Rattle.vd_space.proofs.Front.{is_problem}
 use Rattle.vd_cmd_plan.specs.Labelled.{labelled_form}
 use Rattle.vd_cmd_plan.specs.Plans.{answer_then}
 use Rattle.vd_cmd_plan.specs.declared.answer.Answer.{Answer}
@@ -40,7 +40,7 @@ module _ (name : List ℕ) (contents : Contents) (source : Source) (held : Holds
       let made : IsWellMade program = run_well_made source program (made_of name contents source held) is_run in
       let best = cheapest problem list (is_problem program labels made) chosen in
       let a = assigned problem list in
-      let sum = add_up held.bytes program labels list made (best.is_valid.whole ∙ as_many program labels made) best.is_valid.valid in
+      let sum = add_up held.bytes program labels a.protocols made (record { places = list; is_valid = best.is_valid; named = refl }) in
       let rows = ap nat_or_zero sum in
       subst (λ (x : Answer). TellsDrawing name contents x.printed) (sym is) (record {
         source = source;

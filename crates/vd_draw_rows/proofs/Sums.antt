@@ -32,7 +32,8 @@ use Rattle.vd_space.specs.Validity.{protocol, move, move_to_host, all_hosts, hol
 use Rattle.vd_space.specs.Costs.{weigh, operation_value, operation_term, output_term, use_term, index_term, guard_term, plus, moves_to, hosts_at, total, slots_of, guards_total, one_at, pair_at, cost}
 use Rattle.vd_space.proofs.Front.{total_append, total_map, item_within, each_both, HasPair, indexes_have, is_problem, as_many}
 use Rattle.vd_draw_rows.specs.Moves.{is_part, kept_at}
-use Rattle.vd_draw_rows.specs.Costs.{AddUp}
+use Rattle.vd_draw_rows.specs.Rows.{rows_of}
+use Rattle.vd_draw_rows.specs.Costs.{CostsAddUp, rows_cost}
 use Rattle.vd_draw_rows.proofs.Terms.{tell_cost, told_cost, use_cost, output_cost, guard_cost, index_cost, making_cost, made_cost, parts_cost, body_tells}
 
 -- ---- sums of numbers as sums of signed numbers
@@ -283,8 +284,13 @@ module _ (source : List ℕ) (p : NormalForm) (l : Labels) (list : List ℕ) (is
       let pairs_are = total_append (pair_at list) (map (use_term q) q.uses) (map (index_term q) q.indexes) in
       omega (arith, ints, ones_are, pairs_are, operations_sum, outputs_sum, uses_sum, indexes_sum, guards_sum)
 
-  pub add_up : AddUp source p l list
-  add_up =
+  rows_sum : pos (rows_cost (rows_of source p protocols_)) ≡ cost q list
+  rows_sum =
       ap pos ((body_tells source p protocols_ l p.body).costs 1 1)
       ∙ ap (λ n. pos (parts_cost protocols_ n (slots_made p.body) (all_parts (map (read_stmt l) p.body) 1))) (sym as_many_hosts)
       ∙ sym sum_is
+
+pub add_up : CostsAddUp
+add_up source p l protocols made is =
+    ap (λ (ps : List Proto). pos (rows_cost (rows_of source p ps))) is.named
+    ∙ rows_sum source p l is.places made (is.is_valid.whole ∙ as_many p l made) is.is_valid.valid

@@ -1,10 +1,10 @@
 -- What rows cost, and that the drawn costs add up.
-use Rattle.std.specs.Prelude.{◌≡◌, ℕ, ◌+◌, ◌*◌, List, map, length, pos, IsTrue}
+use Rattle.std.specs.Prelude.{◌≡◌, ℕ, ◌+◌, ◌*◌, List, pos}
+use Rattle.vd_base.specs.declared.protocols.Proto.{Proto}
 use Rattle.vd_core.specs.declared.normal.NormalForm.{NormalForm}
 use Rattle.vd_constraints.specs.declared.labels.Labels.{Labels}
 use Rattle.vd_space.specs.Reading.{problem_of}
-use Rattle.vd_space.specs.Validity.{protocol, is_valid}
-use Rattle.vd_space.specs.Costs.{cost}
+use Rattle.vd_space_optimum.specs.Cheapest.{IsAssignment, cost_of}
 use Rattle.vd_core.specs.Facts.{IsWellMade}
 use Rattle.vd_space.specs.Sizes.{heft}
 use Rattle.vd_draw_rows.specs.declared.row.Move.{Move}
@@ -22,11 +22,9 @@ row_cost row = row.weight * (row.operation + heft move_cost row.moves)
 abbrev pub rows_cost : List Row → ℕ
 rows_cost rows = heft row_cost rows
 
--- the costs of the rows of a program at a valid list add up to what the list costs
-abbrev pub AddUp : List ℕ → NormalForm → Labels → List ℕ → Type 0
-AddUp source p l list = pos (rows_cost (rows_of source p (map (protocol (problem_of p l)) list))) ≡ cost (problem_of p l) list
-
+-- the costs of the rows of a program at a valid assignment add up to what it costs
 abbrev pub CostsAddUp : Type 0
 CostsAddUp =
-    (source : List ℕ) (p : NormalForm) (l : Labels) (list : List ℕ)
-    → IsWellMade p → length list ≡ length p.slots → IsTrue (is_valid (problem_of p l) list) → AddUp source p l list
+    (source : List ℕ) (p : NormalForm) (l : Labels) (protocols : List Proto)
+    → IsWellMade p → (is : IsAssignment (problem_of p l) protocols)
+    → pos (rows_cost (rows_of source p protocols)) ≡ cost_of (problem_of p l) protocols is

@@ -2,7 +2,7 @@
 
 ghost use Rattle.vd_draw_rows.specs.Costs.{CostsAddUp};
 
-/// The costs of the rows of a program at a valid list of protocols add up to what the list costs.
+/// The costs of the rows of a program at a valid assignment of protocols add up to what it costs.
 pub fn costs_add_up()
     ensures { CostsAddUp }
 {}
