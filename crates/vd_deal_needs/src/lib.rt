@@ -8,6 +8,4 @@ mod lists;
 mod taking;
 
 pub use amounts::{greater, sizes};
-pub use counting::count;
-pub use lists::ItemList;
 pub use taking::{HostNeeds, Shared, host_needs, needs};

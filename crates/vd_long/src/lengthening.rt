@@ -16,7 +16,7 @@ use vd_rewrite::{Made, Stop, fit, with_parts};
 
 /// The program with loops of 32 turns in the place of the divisions whose slots are marked, or none where it is the same: where
 /// no division is marked, or the new program would break a limit.
-pub fn lengthen(
+pub(crate) fn lengthen(
     alloc: Global,
     program: &Program,
     long: &[bool],

@@ -12,5 +12,4 @@ mod walk;
 pub use law::{
     each_turn_divides_the_bits_so_far, long_divisions_are_well_made, long_divisions_keep_outputs,
 };
-pub use lengthening::lengthen;
 pub use marks::lengthen_labelled;

@@ -10,4 +10,3 @@ mod walk;
 
 pub use hidden::{hidden_guards, turn_labelled};
 pub use law::{selections_are_well_made, selections_keep_outputs, turning_keeps_outputs};
-pub use turning::turn;

@@ -16,7 +16,7 @@ use vd_rewrite::{Made, Stop, fit, with_parts};
 
 /// The program with selections in the place of its hidden branches, or none where it is the same: where some guard may be
 /// another word than 0 and 1, nothing is hidden, or the new one would break a limit. `hidden` marks the slots that no host may read.
-pub fn turn(
+pub(crate) fn turn(
     alloc: Global,
     program: &Program,
     hidden: &[bool],
