@@ -1,4 +1,5 @@
 pub mod Front
+mod Blocks
 mod Distinct
 mod Pieces
 mod Twice

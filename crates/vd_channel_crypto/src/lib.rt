@@ -13,8 +13,8 @@ pub use codes::{derive, hmac};
 pub use frames::Frame;
 pub use hellos::{Hello, nonce};
 pub use laws::{
-    codes_cover_all, digests_cover_both_hellos, keys_have_one_purpose,
-    records_give_back_their_bytes, streams_are_apart,
+    codes_cover_all, codes_cover_their_keys, digests_cover_both_hellos, keys_have_one_purpose,
+    nonces_are_apart, records_give_back_their_bytes, streams_are_apart,
 };
 pub use records::{Keys, RECORD_BYTES, open};
 pub use streams::key_stream;
