@@ -1,7 +1,12 @@
--- That each key has one purpose, and that both ends of a link have one key.
-use Rattle.std.specs.Prelude.{◌≡◌, ◌≢◌, ◌<◌, ◌^◌, ℕ, List}
+-- That each key has one purpose, and that both ends of a link have one key. The laws are of what a host is given, and name what is hashed
+-- for it.
+use Rattle.std.specs.Prelude.{◌≡◌, ◌≢◌, ◌<◌, ◌-◌, ◌^◌, ◌⊎◌, ℕ, List, Some, slice_get}
 use Rattle.vd_deal_items.specs.declared.deal.Counts.{Counts}
-use Rattle.vd_deal_keys.specs.Keys.{id_info, items_info, link_info, link_between}
+use Rattle.vd_deal_items.specs.Validity.{peer_at}
+use Rattle.vd_channel_crypto.specs.Codes.{hmac}
+use Rattle.vd_deal_keys.specs.declared.secrets.LinkKey.{LinkKey}
+use Rattle.vd_deal_keys.specs.Keys.{items_key, salt}
+use Rattle.vd_deal_keys.specs.Secrets.{secrets_of}
 
 -- numbers of 32 bits
 pub record AreWords (counts : Counts) : Type 0 where
@@ -17,16 +22,32 @@ pub record SameCounts (one other : Counts) : Type 0 where
   pub ands : one.ands ≡ other.ands
   pub pairs : one.pairs ≡ other.pairs
 
--- no two of the purposes of a key are told by the same bytes, and each tells its counts, and a link its hosts
-pub record PurposesAreApart : Type 0 where
-  pub id_is_no_items : (c d : Counts) → id_info c ≢ items_info d
-  pub id_is_no_link : (c d : Counts) (a b : ℕ) → id_info c ≢ link_info d a b
-  pub items_are_no_link : (c d : Counts) (a b : ℕ) → items_info c ≢ link_info d a b
-  pub ids : (c d : Counts) → AreWords c → AreWords d → id_info c ≡ id_info d → SameCounts c d
-  pub items : (c d : Counts) → AreWords c → AreWords d → items_info c ≡ items_info d → SameCounts c d
-  pub links : (c d : Counts) (a b x y : ℕ) → AreWords c → AreWords d → link_info c a b ≡ link_info d x y
-      → SameCounts c d × (a ≡ x) × (b ≡ y)
+-- the same two hosts, in whichever order
+abbrev pub SameEnds : (a b x y : ℕ) → Type 0
+SameEnds a b x y = ((a ≡ x) × (b ≡ y)) ⊎ ((a ≡ y) × (b ≡ x))
 
--- both ends of a link have one key
+abbrev pub key_is : List ℕ → LinkKey
+key_is bytes = record { 0 = bytes }
+
+-- The public name of a dealing, the key of its items and that of each link are codes, under one key that is made of that of the dealing.
+-- No two of these are codes of one message, and each message tells its counts, and that of a link its two hosts.
+pub record PurposesAreApart : Type 0 where
+  pub id : Counts → List ℕ
+  pub items : Counts → List ℕ
+  pub link : Counts → (me peer : ℕ) → List ℕ
+  pub id_is : (c : Counts) (key : List ℕ) (me : ℕ) → (secrets_of c key me).id ≡ hmac (hmac salt key) (id c)
+  pub items_are : (c : Counts) (key : List ℕ) → items_key c key ≡ hmac (hmac salt key) (items c)
+  pub link_is : (c : Counts) (key : List ℕ) (me place : ℕ) → place < c.hosts - 1
+      → slice_get (secrets_of c key me).links place ≡ Some (key_is (hmac (hmac salt key) (link c me (peer_at me place))))
+  pub id_is_no_items : (c d : Counts) → id c ≢ items d
+  pub id_is_no_link : (c d : Counts) (a b : ℕ) → id c ≢ link d a b
+  pub items_are_no_link : (c d : Counts) (a b : ℕ) → items c ≢ link d a b
+  pub ids : (c d : Counts) → AreWords c → AreWords d → id c ≡ id d → SameCounts c d
+  pub each_items : (c d : Counts) → AreWords c → AreWords d → items c ≡ items d → SameCounts c d
+  pub links : (c d : Counts) (a b x y : ℕ) → AreWords c → AreWords d → link c a b ≡ link d x y → SameCounts c d × SameEnds a b x y
+
+-- what two hosts are given for the link between them is one key
 abbrev pub LinksHaveOneKey : Type 0
-LinksHaveOneKey = (counts : Counts) (key : List ℕ) (one other : ℕ) → link_between counts key one other ≡ link_between counts key other one
+LinksHaveOneKey = (counts : Counts) (key : List ℕ) (one other place back : ℕ) → place < counts.hosts - 1 → back < counts.hosts - 1
+    → peer_at one place ≡ other → peer_at other back ≡ one
+    → slice_get (secrets_of counts key one).links place ≡ slice_get (secrets_of counts key other).links back

@@ -2,12 +2,13 @@
 
 ghost use Rattle.vd_deal_keys.specs.Laws.{LinksHaveOneKey, PurposesAreApart};
 
-/// No two purposes of the key of a dealing are told by the same bytes, nor are two dealings of it with different counts.
+/// The public name of a dealing, the key of its items and the keys of its links are codes of different messages, as are those of two
+/// dealings of one key with different counts, and the keys of the links of two pairs of hosts.
 pub fn purposes_are_apart()
     ensures { PurposesAreApart }
 {}
 
-/// Both ends of a link have one key.
+/// Both ends of a link are given one key.
 pub fn links_have_one_key()
     ensures { LinksHaveOneKey }
 {}
