@@ -1,6 +1,8 @@
 //! How both ends of a sealed link begin: each says a hello, and then proves that it has the key of the link.
 #![tactic(auto)]
 
+mod laws;
 mod meeting;
 
+pub use laws::ends_have_the_same_keys;
 pub use meeting::meet;
