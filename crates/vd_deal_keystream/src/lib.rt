@@ -1,13 +1,15 @@
 //! Which words a key deals. Nothing is computed here: the function's clauses are laws.
 #![tactic(auto)]
 
-ghost use Rattle.vd_deal_keystream.specs.Drawn.{ItemsAreApart, OwnWordsAreApart, KeysAreApart, NumbersAreApart};
+ghost use Rattle.vd_deal_keystream.specs.Drawn.{DealsAreDrawn, EachIsDrawnOnce, NumbersAreApart, PlacesAreApart, WordsAreOfBlocks};
 
-/// Each word of a product or a pair is a word of its stream at a place of its own, and no two items of a stream share a place. The own
-/// words of a host are those of the stream of its own number. And two keys of 32 bytes are two keys of the cipher, as two numbers are.
+/// The word at a place of a stream is that of ChaCha20 for the key, the stream and the place: words of two keys, of two streams or at
+/// two places are of blocks that begin with two states, or two words of one block. So are two words of deals: the own words of the
+/// hosts, and the words of each kind of items of each two hosts. Each number has a key of its own, and deals the words of that.
 pub fn what_is_dealt_is_drawn_once()
-    ensures items { ItemsAreApart }
-    ensures own { OwnWordsAreApart }
-    ensures keys { KeysAreApart }
+    ensures words { WordsAreOfBlocks }
+    ensures places { PlacesAreApart }
+    ensures dealt { DealsAreDrawn }
+    ensures once { EachIsDrawnOnce }
     ensures numbers { NumbersAreApart }
 {}

@@ -1,15 +1,18 @@
-use Rattle.vd_deal_keystream.proofs.Apart.{items_apart, own_words_apart, numbers_apart}
-use Rattle.vd_deal_keystream.proofs.Keys.{keys_apart}
+use Rattle.vd_deal_keystream.proofs.Apart.{words_of_blocks, drawn_once, deals_drawn, numbers_drawn}
+use Rattle.vd_deal_keystream.proofs.Keys.{places_apart}
 use Rattle.vd_deal_keystream.proofs.what_is_dealt_is_drawn_once.Goals as goal
 
-pub returns-clause-items : goal.returns-clause-items
-returns-clause-items c = items_apart
+pub returns-clause-words : goal.returns-clause-words
+returns-clause-words c = words_of_blocks
 
-pub returns-clause-own : goal.returns-clause-own
-returns-clause-own c = own_words_apart
+pub returns-clause-places : goal.returns-clause-places
+returns-clause-places c = places_apart
 
-pub returns-clause-keys : goal.returns-clause-keys
-returns-clause-keys c = keys_apart
+pub returns-clause-dealt : goal.returns-clause-dealt
+returns-clause-dealt c = deals_drawn
+
+pub returns-clause-once : goal.returns-clause-once
+returns-clause-once c = drawn_once
 
 pub returns-clause-numbers : goal.returns-clause-numbers
-returns-clause-numbers c = numbers_apart
+returns-clause-numbers c = numbers_drawn
