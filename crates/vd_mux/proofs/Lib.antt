@@ -5,3 +5,5 @@ mod SelectionsKept
 mod SelectionsWellMade
 mod Turned
 mod Reading
+mod BranchesGone
+mod HiddenGone

@@ -1,4 +1,5 @@
 pub mod BooleanGuards
+pub mod Branches
 pub mod Selections
 pub mod Truths
 pub mod Walks

@@ -6,6 +6,7 @@ ghost use Rattle.vd_core.specs.declared.normal.NormalForm.{NormalForm};
 ghost use Rattle.vd_core.specs.Facts.{IsWellMade};
 ghost use Rattle.vd_semantics.specs.ProgramMeaning.{program_outputs};
 ghost use Rattle.vd_mux.specs.BooleanGuards.{HasBooleanGuards};
+ghost use Rattle.vd_mux.specs.Branches.{AllHiddenBranchesGo};
 ghost use Rattle.vd_mux.specs.Selections.{turned_where_boolean};
 ghost use Rattle.vd_mux.specs.Selections.{turned};
 
@@ -25,4 +26,10 @@ pub fn turning_keeps_outputs()
 /// A program with selections in the place of hidden branches is well made.
 pub fn selections_are_well_made()
     ensures { (hides : SlotId → Bool) (program : NormalForm) → IsWellMade program → IsWellMade (turned hides program) }
+{}
+
+/// A branch on what no host may read is gone after the turn, where its statements need no host's act, all guards are boolean and
+/// the new program keeps to the limits. The branches that are left are the others, in their order.
+pub fn hidden_branches_go()
+    ensures { AllHiddenBranchesGo }
 {}

@@ -9,4 +9,6 @@ mod turning;
 mod walk;
 
 pub use hidden::{hidden_guards, turn_labelled};
-pub use law::{selections_are_well_made, selections_keep_outputs, turning_keeps_outputs};
+pub use law::{
+    hidden_branches_go, selections_are_well_made, selections_keep_outputs, turning_keeps_outputs,
+};
