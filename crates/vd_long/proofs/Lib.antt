@@ -10,3 +10,5 @@ mod StepsGrow
 mod Placing
 mod LongSizes
 mod LongProgram
+mod DivisionsGone
+mod LongGone

@@ -7,6 +7,7 @@ ghost use Rattle.vd_core.specs.Facts.{IsWellMade};
 ghost use Rattle.vd_semantics.specs.ProgramMeaning.{program_outputs};
 ghost use Rattle.vd_base.specs.Words.{InputsAreWords};
 ghost use Rattle.vd_core.specs.Numbers.{NumbersFit};
+ghost use Rattle.vd_long.specs.DivisionsLeft.{AllDivisionsGo};
 ghost use Rattle.vd_long.specs.Lengthened.{lengthened};
 ghost use Rattle.vd_long.specs.LongDivision.{divided, IsDividedSoFar};
 
@@ -28,4 +29,10 @@ pub fn long_divisions_are_well_made()
 pub fn each_turn_divides_the_bits_so_far()
     ensures { (dividend divisor turn : ℕ) → dividend < 2 ^ 32 → turn ≤ 32 →
         IsDividedSoFar dividend divisor turn (divided dividend divisor turn) }
+{}
+
+/// A division for which no protocol is a candidate is gone after lengthening, where the new program keeps to the limits and to the
+/// depth of loops. The divisions that are left are the others, in their order.
+pub fn divisions_without_a_candidate_go()
+    ensures { AllDivisionsGo }
 {}

@@ -10,6 +10,7 @@ mod steps;
 mod walk;
 
 pub use law::{
-    each_turn_divides_the_bits_so_far, long_divisions_are_well_made, long_divisions_keep_outputs,
+    divisions_without_a_candidate_go, each_turn_divides_the_bits_so_far,
+    long_divisions_are_well_made, long_divisions_keep_outputs,
 };
 pub use marks::lengthen_labelled;
