@@ -12,3 +12,4 @@ mod Carried
 mod DealLines
 mod Finding
 mod ShownNames
+mod Telling

@@ -8,3 +8,4 @@ pub mod Lines
 pub mod Refusals
 pub mod Numbered
 pub mod Shown
+pub mod Words

@@ -2,6 +2,7 @@
 #![tactic(auto)]
 
 mod answer;
+mod codes;
 mod deliver;
 mod ending;
 mod host_lines;
@@ -14,6 +15,7 @@ mod shown;
 mod status;
 
 pub use answer::Answer;
+pub use codes::codes_tell_statuses;
 pub use deliver::store_all;
 pub use ending::{finish, print_text};
 pub use labelled::Labelled;
