@@ -7,6 +7,8 @@ use Rattle.vd_outside.specs.Spawner.{SpawnerView}
 use Rattle.vd_cmd.specs.Commands.{form_of}
 use Rattle.vd_cmd.specs.declared.command.Command.{Command}
 use Rattle.vd_cmd.specs.declared.command.Command.TheVariants.{OnFiles, KeyDeal, Early, Host, Run}
+use Rattle.vd_cmd.specs.declared.command.FilesCommand.{FilesCommand}
+use Rattle.vd_cmd.specs.declared.command.ReplayWords.{ReplayWords}
 use Rattle.vd_cmd.specs.declared.command.FilesCommand.TheVariants.{Depends, Influences, Needs, Replay, Trial}
 use Rattle.vd_cmd_plan.specs.Plans.{Executes, fetch_calls}
 use Rattle.vd_cmd_plan.specs.declared.status.Status.{Status}
@@ -27,7 +29,7 @@ use Rattle.vd_cmd.specs.declared.command.KeySource.{KeySource}
 use Rattle.vd_cmd.specs.declared.command.KeySource.TheVariants.{Drawn, InFile}
 use Rattle.vd_cmd.specs.declared.command.RunWords.{RunWords}
 use Rattle.vd_top.specs.Commands.{RunsForm, plan_of, search_of, usage_plan}
-use Rattle.vd_top.specs.Counts.{CountedForm, KeepsCount}
+use Rattle.vd_top.specs.Counts.{CountedForm, KeepsCount, counts_packets_by}
 use Rattle.vd_top.specs.Early.{EarlyForm}
 use Rattle.vd_top.specs.Headline.{KeepsTrial, KeepsDependence, KeepsHeadline, KeepsInfluence, KeepsNeeds, ShowsForm}
 use Rattle.vd_cmd_run.proofs.Front.{complete}
@@ -198,6 +200,12 @@ host_marks command words is e = let wrong : true ≡ false = sym (ap (λ (k : Co
 pub key_marks : (command : Command) (words : KeyDealWords) → command ≡ KeyDeal words → marks_by (Some command) ≡ false → ⊥
 key_marks command words is e = let wrong : true ≡ false = sym (ap (λ (k : Command). marks_by (Some k)) is) ∙ e in cc
 
+pub replay_counts : (command : FilesCommand) (words : ReplayWords) → command ≡ Replay words → counts_packets_by (Some (OnFiles command)) ≡ false → ⊥
+replay_counts command words is e = let wrong : true ≡ false = sym (ap (λ (k : FilesCommand). counts_packets_by (Some (OnFiles k))) is) ∙ e in cc
+
+pub uncounted : (command : Command) (inner : FilesCommand) → command ≡ OnFiles inner → counts_packets_by (Some command) ≡ false → counts_packets_by (Some (OnFiles inner)) ≡ false
+uncounted command inner is e = subst (λ (k : Command). counts_packets_by (Some k) ≡ false) is e
+
 pub run_spawns : (command : Command) (words : RunWords) → command ≡ Run words → spawns_by (Some command) ≡ false → ⊥
 run_spawns command words is e = let wrong : true ≡ false = sym (ap (λ (k : Command). spawns_by (Some k)) is) ∙ e in cc
 
@@ -230,6 +238,9 @@ module _ (form : Option Command) (command : Command) (is : form ≡ Some command
 
   pub unmarked_by : marks_by form ≡ false → marks_by (Some command) ≡ false
   unmarked_by silent = subst (λ (f : Option Command). marks_by f ≡ false) is silent
+
+  pub uncounted_by : counts_packets_by form ≡ false → counts_packets_by (Some command) ≡ false
+  uncounted_by silent = subst (λ (f : Option Command). counts_packets_by f ≡ false) is silent
 
   pub spawns_as : (files files_now : FilesView) (out out_now : SinkView) (spawner spawner_now : SpawnerView) (status : Status) → SpawnsForm (Some command) files files_now out out_now spawner spawner_now status
       → SpawnsForm form files files_now out out_now spawner spawner_now status

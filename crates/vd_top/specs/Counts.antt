@@ -1,5 +1,5 @@
 -- How many packets the hosts of a `replay` sent to one another.
-use Rattle.std.specs.Prelude.{◌≡◌, ℕ, IsTrue, List, Option, Some, Result}
+use Rattle.std.specs.Prelude.{◌≡◌, ℕ, Bool, true, false, IsTrue, List, Option, Some, Result}
 use Rattle.vd_outside.specs.Files.{FilesView}
 use Rattle.vd_cmd.specs.Commands.{form_of}
 use Rattle.vd_cmd.specs.declared.command.Command.{Command}
@@ -11,6 +11,14 @@ use Rattle.vd_cmd_plan.specs.declared.answer.Answer.{Answer}
 use Rattle.vd_cmd_plan.specs.declared.status.Status.{Status}
 use Rattle.vd_cmd_plan.specs.declared.status.Status.TheVariants.{Ended}
 use Rattle.vd_cmd_replay.specs.Counting.{CountsReplay, IsReplayCount}
+
+-- whether a command is the one that counts packets
+abbrev pub counts_packets_by : Option Command → Bool
+counts_packets_by (Some (OnFiles (Replay words))) = true
+counts_packets_by other = false
+
+abbrev pub counts_packets : List (List ℕ) → Bool
+counts_packets words = counts_packets_by (form_of words)
 
 -- Where the words are those of `replay`, and the files tell what they hold, a run with status 0 has counted the packets that the hosts
 -- of the source sent to one another in the run that was reported.

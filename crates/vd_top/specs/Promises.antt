@@ -12,12 +12,12 @@ use Rattle.vd_cmd_plan.specs.declared.status.Status.{Status}
 use Rattle.vd_top.specs.Answers.{KeepsChoice, KeepsCompiled, KeepsDeal, KeepsDrawing, KeepsHastened, KeepsKeyed, KeepsLabels, KeepsProof}
 use Rattle.vd_top.specs.Compiled.{KeepsStored}
 use Rattle.vd_top.specs.Early.{EarlyByWords}
-use Rattle.vd_top.specs.Counts.{KeepsCount}
+use Rattle.vd_top.specs.Counts.{KeepsCount, counts_packets}
 use Rattle.vd_top.specs.Commands.{CompletesWords, RunsWords}
 use Rattle.vd_top.specs.Headline.{KeepsAccepted, KeepsDependence, KeepsExcuse, KeepsHeadline, KeepsInfluence, KeepsNeeds, KeepsTrial}
 use Rattle.vd_top.specs.Hosts.{KeysWords, MarksWords, PlaysWords, ReportsWords, ServesWords, SpawnsWords, may_mark, speaks, spawns}
 
--- the objects that a run uses, each before it and after it, and how many packets it says that hosts sent in this process
+-- the objects that a run uses, and how many packets it says that hosts sent in this process, each before it and after it
 pub record Around : Type 0 where
   pub files : FilesView × FilesView
   pub out : SinkView × SinkView
@@ -25,7 +25,7 @@ pub record Around : Type 0 where
   pub marks : MarksView × MarksView
   pub nets : NetsView × NetsView
   pub spawner : SpawnerView × SpawnerView
-  pub packets : Option ℕ
+  pub packets : Option ℕ × Option ℕ
 
 -- what `run` promises of its words, clause by clause
 pub record Keeps (words : List (List ℕ)) (o : Around) (status : Status) : Type 0 where
@@ -53,7 +53,7 @@ pub record Keeps (words : List (List ℕ)) (o : Around) (status : Status) : Type
   pub keyed : KeysWords words o.files.0 o.files.1 o.marks.0 o.marks.1 o.out.0 o.out.1 status
   pub hosts : SpawnsWords words o.files.0 o.files.1 o.out.0 o.out.1 o.spawner.0 o.spawner.1 status
   pub served : ServesWords words o.files.0 o.files.1 o.nets.0 o.nets.1 o.out.0 o.out.1 status
-  pub counted : KeepsCount words o.files.0 o.packets status
+  pub counted : KeepsCount words o.files.0 o.packets.1 status
   pub reported : ReportsWords words o.files.0 o.files.1 o.out.0 o.out.1 o.spawner.0 o.spawner.1 status
 
 -- What `start` promises. A lone word that asks for a text of the program's own gets that text, and no file is asked for; all other
@@ -65,3 +65,4 @@ pub record Starts (words : List (List ℕ)) (o : Around) (status : Status) : Typ
   pub net_untouched : speaks words ≡ false → o.nets.1 ≡ o.nets.0
   pub marks_untouched : may_mark words ≡ false → o.marks.1 ≡ o.marks.0
   pub spawner_untouched : spawns words ≡ false → o.spawner.1 ≡ o.spawner.0
+  pub packets_untouched : counts_packets words ≡ false → o.packets.1 ≡ o.packets.0

@@ -64,7 +64,7 @@ pub record IsRunOver (destination : Destination) (words : List (List ℕ)) (fail
   pub last : FilesView
   pub faults : ℕ × ℕ
   pub ahead : IsReadAhead (wanted_by (form_of words)) fails_at faults holds read
-  pub run : IsRun destination words (record { files = (read, last); out = o.out; err = o.err; marks = o.marks; nets = o.nets; spawner = o.spawner; packets = o.packets }) code whom
+  pub run : IsRun destination words (record { files = (read, last); out = o.out; err = o.err; marks = o.marks; nets = o.nets; spawner = o.spawner; packets = (None, o.packets) }) code whom
 
 -- Either was it, or there was no memory.
 abbrev pub RunsOver : Destination → (words : List (List ℕ)) → (fails_at : List ℕ → Type 0) → (holds : Contents) → Streams → (code : ℕ) → (whom : Named) → Type 0

@@ -1,6 +1,6 @@
 //! What the program does, whatever objects it is given.
 
-ghost use Rattle.std.specs.Prelude.{◌≡◌, ◌≤◌, IfOk, drop, if◌then◌else◌, map, string_bytes};
+ghost use Rattle.std.specs.Prelude.{◌≡◌, ◌≤◌, IfOk, None, drop, if◌then◌else◌, map, string_bytes};
 ghost use Rattle.std.specs.Process.{exit_status};
 ghost use Rattle.vd_cmd_host.specs.Hosts.{nets_of};
 ghost use Rattle.vd_cmd_plan.specs.Lines.{Says, code_of, status_line};
@@ -109,7 +109,7 @@ fn run_program<F: Files, M: Marks, O: Sink, E: Sink, N: Net + Drop, S: Spawner>(
       marks = (M.view marks.old, M.view marks.new);
       nets = (nets_of (N.view net.old.net) net.old.ledger net.old.faults, nets_of (N.view net.new.net) net.new.ledger net.new.faults);
       spawner = (S.view spawner.old, S.view spawner.new);
-      packets = result.packets;
+      packets = (None, result.packets);
     }) (exit_status result.code) result.named }
 {
     let mut packets = None;

@@ -4,7 +4,7 @@ use Rattle.vd_cmd_host.specs.Hosts.{nets_of}
 use Rattle.vd_cmd_plan.specs.declared.status.Status.TheVariants.{Memory, Usage}
 use Rattle.vd_top.proofs.Answering.{within_limits}
 use Rattle.vd_top.proofs.Compiling.{stores_by, stores_nothing}
-use Rattle.vd_top.proofs.Telling.{childless_by, counts_by, counts_nothing, early_by, early_nothing, early_refused, keys_by, keys_nothing, keys_refused, marked_all, marked_by, plays_by, plays_nothing, plays_refused, runs_by, runs_nothing, runs_refused, shows_by, shows_nothing, shows_refused, silent_by, spawns_as, spawns_nothing, spawns_refused, unmarked_by}
+use Rattle.vd_top.proofs.Telling.{childless_by, counts_by, counts_nothing, early_by, early_nothing, early_refused, keys_by, keys_nothing, keys_refused, marked_all, marked_by, plays_by, plays_nothing, plays_refused, runs_by, runs_nothing, runs_refused, shows_by, shows_nothing, shows_refused, silent_by, spawns_as, spawns_nothing, spawns_refused, uncounted_by, unmarked_by}
 use Rattle.vd_top.proofs.entry.run_words.Goals as goal
 
 pub returns-in-Ok-clause-runs : goal.returns-in-Ok-clause-runs
@@ -134,3 +134,6 @@ returns-in-Err-Usage-clause-early g c =
 
 pub returns-in-Err-Memory-clause-early : goal.returns-in-Err-Memory-clause-early
 returns-in-Err-Memory-clause-early g c = early_nothing (g.F.Files.view c.args.files.now) (g.O.Sink.view c.args.out.now) (form_of c.args.words.now)
+
+pub returns-in-Ok-clause-packets_untouched : goal.returns-in-Ok-clause-packets_untouched
+returns-in-Ok-clause-packets_untouched g c = λ e. c.run_command.ensures.packets_untouched (uncounted_by (form_of c.args.words.now) c.in-Ok.command c.in-Ok.ensures.command e)

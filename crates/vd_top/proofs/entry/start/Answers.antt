@@ -36,4 +36,5 @@ returns-in-None g c = record {
   net_untouched = λ e. rw (c.run.ensures.net_untouched e) refl;
   marks_untouched = c.run.ensures.marks_untouched;
   spawner_untouched = c.run.ensures.spawner_untouched;
+  packets_untouched = c.run.ensures.packets_untouched;
 }
