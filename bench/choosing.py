@@ -31,7 +31,7 @@ class Choice(NamedTuple):
 def build():
     """Builds the program where it is not built."""
     if not PROGRAM.exists():
-        subprocess.run([str(TOP / "viaduct"), "--version"], check=True, stdout=subprocess.DEVNULL)
+        subprocess.run([str(TOP / "viaduct"), "--proved", "--version"], check=True, stdout=subprocess.DEVNULL)
 
 
 def viaduct(*words):

@@ -6,7 +6,7 @@ left=$(mktemp -d)
 trap 'rm -rf "$left"' EXIT
 runs=5
 
-[ -x "$program" ] || "$top/viaduct" --version >&2
+[ -x "$program" ] || "$top/viaduct" --proved --version >&2
 
 # Runs the program with these words so often, and prints its last line, what the job is, and the least of the times.
 timed() {
