@@ -1,10 +1,10 @@
 -- What a stream is made of, and that what its blocks begin with tells all apart.
-use Rattle.std.proofs.Common.{arith, ◌≡◌, ◌<◌, ◌+◌, ◌*◌, ◌/◌, ◌%◌, ◌^◌, ℕ, zero, suc, List, ◌++◌, refl, ap, sym, ◌∙◌, add-zero, slice_index}
+use Rattle.std.proofs.Common.{arith, ◌≡◌, ◌<◌, ◌+◌, ◌*◌, ◌/◌, ◌%◌, ◌^◌, ℕ, zero, suc, List, [], ◌∷◌, ◌++◌, refl, ap, sym, ◌∙◌, add-zero, slice_index}
 use Rattle.std.proofs.lemmas.List.{ext_get_or}
 use Rattle.rand_chacha.specs.Block.{initial_state}
 use Rattle.rand_chacha.specs.ChaCha.{key_of}
 use Rattle.rand_core.specs.Steps.{u32_at, word_bytes}
-use Rattle.vd_channel_crypto.specs.Laws.{IsKey, StreamsAreApart, block_bytes}
+use Rattle.vd_channel_crypto.specs.Laws.{AreBytes, IsKey, StreamsAreApart, block_bytes}
 use Rattle.vd_channel_crypto.specs.Streams.{key_stream}
 
 two_blocks : (key : List ℕ) (number : ℕ) → key_stream key number ≡ block_bytes key number 0 ++ block_bytes key number 1
@@ -25,6 +25,11 @@ words_same j k a b m n e (suc (suc (suc (suc (suc (suc zero)))))) h = ap (λ (xs
 words_same j k a b m n e (suc (suc (suc (suc (suc (suc (suc zero))))))) h = ap (λ (xs : List ℕ). slice_index xs 11) e
 words_same j k a b m n e (suc (suc (suc (suc (suc (suc (suc (suc i)))))))) h = absurd (omega (arith, h))
 
+each_small : (xs : List ℕ) → AreBytes xs → (i : ℕ) → slice_index xs i < 2 ^ 8
+each_small [] f i = omega arith
+each_small (x ∷ xs) f zero = f.0
+each_small (x ∷ xs) f (suc i) = each_small xs f.1 i
+
 -- the four bytes of a word
 bytes_of : (a b c d e f g h : ℕ) → a < 2 ^ 8 → b < 2 ^ 8 → c < 2 ^ 8 → d < 2 ^ 8 → e < 2 ^ 8 → f < 2 ^ 8 → g < 2 ^ 8 → h < 2 ^ 8
     → a + b * 2 ^ 8 + c * 2 ^ 16 + d * 2 ^ 24 ≡ e + f * 2 ^ 8 + g * 2 ^ 16 + h * 2 ^ 24 → (a ≡ e) × (b ≡ f) × (c ≡ g) × (d ≡ h)
@@ -41,8 +46,10 @@ module _ (j k : List ℕ) (is : IsKey j) (also : IsKey k) where
       × (slice_index j (4 * i + 2) ≡ slice_index k (4 * i + 2)) × (slice_index j (4 * i + 3) ≡ slice_index k (4 * i + 3))
   unfolding u32_at
   four i e =
-      bytes_of _ _ _ _ _ _ _ _ (is.each (4 * i)) (is.each (4 * i + 1)) (is.each (4 * i + 2)) (is.each (4 * i + 3))
-      (also.each (4 * i)) (also.each (4 * i + 1)) (also.each (4 * i + 2)) (also.each (4 * i + 3)) e
+      let one = each_small j is.each in
+      let other = each_small k also.each in
+      bytes_of _ _ _ _ _ _ _ _ (one (4 * i)) (one (4 * i + 1)) (one (4 * i + 2)) (one (4 * i + 3))
+      (other (4 * i)) (other (4 * i + 1)) (other (4 * i + 2)) (other (4 * i + 3)) e
 
   at_place : (i r : ℕ) → u32_at j i ≡ u32_at k i → r < 4 → slice_index j (4 * i + r) ≡ slice_index k (4 * i + r)
   at_place i zero e h = ap (slice_index j) (add-zero (4 * i)) ∙ (four i e).0 ∙ ap (slice_index k) (sym (add-zero (4 * i)))
@@ -58,8 +65,8 @@ module _ (j k : List ℕ) (is : IsKey j) (also : IsKey k) where
 
   key_same : ((i : ℕ) → i < 8 → u32_at j i ≡ u32_at k i) → j ≡ k
   key_same words =
-      let one = is.bytes in
-      let other = also.bytes in
+      let one = is.long in
+      let other = also.long in
       ext_get_or 0 j k (one ∙ sym other) (λ i h. at_each words i (omega (arith, one, h)))
 
 -- ---- its numbers

@@ -1,15 +1,15 @@
 -- That what is hashed tells all apart.
-use Rattle.std.proofs.Common.{arith, ◌≡◌, ◌≢◌, ◌<◌, ◌≤◌, ◌+◌, ◌-◌, ◌^◌, ℕ, nat_lt, Bool, true, false, if◌then◌else◌, List, [], ◌∷◌, ◌++◌, length, map, replicate, bit_xor, codes, refl, ap, sym, ◌∙◌, length-append}
+use Rattle.std.proofs.Common.{arith, ◌≡◌, ◌≢◌, ◌<◌, ◌≤◌, ◌+◌, ◌-◌, ◌/◌, ◌%◌, ◌^◌, ℕ, zero, suc, nat_lt, Bool, true, false, if◌then◌else◌, List, [], ◌∷◌, ◌++◌, length, map, replicate, bit_xor, codes, refl, ap, sym, ◌∙◌, length-append}
 use Rattle.std.proofs.lemmas.Bool.Decides.{nat_tests}
 use Rattle.std.proofs.lemmas.List.{append_cancel_left}
-use Rattle.std.proofs.lemmas.Nat.{from_be_bytes-to_be_bytes_4, from_be_bytes-to_be_bytes_8}
-use Rattle.std.specs.Int.{w32, w64, to_be_bytes, from_be_bytes}
+use Rattle.std.proofs.lemmas.Nat.{from_be_bytes-to_be_bytes_4, from_be_bytes-to_be_bytes_8, xor_of_8}
+use Rattle.std.specs.Int.{byte_at, w32, w64, to_be_bytes, from_be_bytes}
 use Rattle.std.specs.Int.Bits.{xor_assoc, xor_self, xor_zero_r}
 use Rattle.sha2.specs.Sha256.{sha256}
 use Rattle.vd_channel_crypto.specs.declared.hellos.Hello.{Hello}
 use Rattle.vd_channel_crypto.specs.Codes.{block_of, padded}
 use Rattle.vd_channel_crypto.specs.Hellos.{digest_between, hello_bytes, key_info}
-use Rattle.vd_channel_crypto.specs.Laws.{CodesCoverAll, CodesCoverTheirKeys, DigestsCoverBothHellos, GivesBack, IsHello, KeysHaveOnePurpose, NoncesAreApart, SameHello}
+use Rattle.vd_channel_crypto.specs.Laws.{AreBytes, CodesCoverAll, CodesCoverTheirKeys, DigestsCoverBothHellos, GivesBack, IsHello, IsOfBytes, KeysHaveOnePurpose, NoncesAreApart, SameHello}
 use Rattle.vd_channel_crypto.specs.Records.{coded}
 use Rattle.vd_channel_crypto.specs.Streams.{key_stream, under}
 use Rattle.vd_channel_crypto.proofs.Twice.{twice}
@@ -34,7 +34,36 @@ behind_two a b c d xs ys e = (cc, cc, cc)
 behind_one : (a b : ℕ) (xs ys : List ℕ) → a ∷ xs ≡ b ∷ ys → (a ≡ b) × (xs ≡ ys)
 behind_one a b xs ys e = (cc, cc)
 
+-- ---- bytes
+
+pub append_bytes : (xs ys : List ℕ) → AreBytes xs → AreBytes ys → AreBytes (xs ++ ys)
+append_bytes [] ys f g = g
+append_bytes (x ∷ xs) ys f g = (f.0, append_bytes xs ys f.1 g)
+
+byte_small : (k n : ℕ) → byte_at k n < 2 ^ 8
+byte_small zero n = omega arith
+byte_small (suc k) n = let m : ℕ = n / 256 ^ suc k in let f : m % 256 < 256 = omega arith in f
+
+pub word_bytes_small : (n : ℕ) → AreBytes (to_be_bytes w32 n)
+word_bytes_small n = (byte_small 3 n, (byte_small 2 n, (byte_small 1 n, (byte_small 0 n, tt))))
+
+number_bytes : (n : ℕ) → AreBytes (to_be_bytes w64 n)
+number_bytes n =
+    (byte_small 7 n, (byte_small 6 n, (byte_small 5 n, (byte_small 4 n, (byte_small 3 n, (byte_small 2 n, (byte_small 1 n, (byte_small 0 n, tt))))))))
+
+zero_bytes : (n : ℕ) → AreBytes (replicate n 0)
+zero_bytes zero = tt
+zero_bytes (suc n) = (omega arith, zero_bytes n)
+
 -- ---- codes
+
+xor_bytes : (pad : ℕ) (xs : List ℕ) → pad < 2 ^ 8 → AreBytes xs → AreBytes (map (λ b. bit_xor b pad) xs)
+xor_bytes pad [] h f = tt
+xor_bytes pad (x ∷ xs) h f = (xor_of_8 x pad f.0 h, xor_bytes pad xs h f.1)
+
+padded_bytes : (pad : ℕ) (key rest : List ℕ) → pad < 2 ^ 8 → AreBytes key → AreBytes rest → AreBytes (padded pad key ++ rest)
+padded_bytes pad key rest h f g =
+    append_bytes (padded pad key) rest (xor_bytes pad (block_of key) h (append_bytes key (replicate (64 - length key) 0) f (zero_bytes (64 - length key)))) g
 
 xor_back : (a pad : ℕ) → bit_xor (bit_xor a pad) pad ≡ a
 xor_back a pad = xor_assoc a pad pad ∙ ap (λ z. bit_xor a z) (xor_self pad) ∙ xor_zero_r a
@@ -70,6 +99,7 @@ codes_cover_their_keys = record {
   hashed = λ key message. refl;
   tells = behind_pad 0x36;
   tells_again = behind_pad 0x5c;
+  bytes = λ key message digest k m d. (padded_bytes 0x36 key message (omega arith) k m, padded_bytes 0x5c key digest (omega arith) k d);
 }
 
 -- ---- records
@@ -90,8 +120,12 @@ coded_same m n one other fits other_fits e =
     let parts = front_same (to_be_bytes w64 m) (to_be_bytes w64 n) (0x58 ∷ length one ∷ one) (0x58 ∷ length other ∷ other) refl e in
     (number_same m n fits other_fits parts.0, (behind_two _ _ _ _ one other parts.1).2)
 
+coded_bytes : (number : ℕ) (covered : List ℕ) → length covered < 2 ^ 8 → AreBytes covered → AreBytes (coded number covered)
+coded_bytes number covered few each =
+    append_bytes (to_be_bytes w64 number) (0x58 ∷ length covered ∷ covered) (number_bytes number) (omega arith, (few, each))
+
 pub codes_cover_all : CodesCoverAll
-codes_cover_all = record { message = coded; hashed = λ keys number covered. refl; apart = coded_same }
+codes_cover_all = record { message = coded; hashed = λ keys number covered. refl; apart = coded_same; bytes = coded_bytes }
 
 -- ---- keys
 
@@ -114,6 +148,44 @@ same_for purpose x y one other e = let same = asked_same purpose purpose x y one
 two_purposes : (x y : ℕ) (one other : List ℕ) → asked 0x63 x one ≡ asked 0x6d y other → ⊥
 two_purposes x y one other e = let same : 0x63 ≡ 0x6d = (asked_same 0x63 0x6d x y one other e).0 in omega (arith, same)
 
+label_bytes : AreBytes (codes "viaduct link 2")
+label_bytes = (
+  omega arith,
+  (
+    omega arith,
+    (
+      omega arith,
+      (
+        omega arith,
+        (
+          omega arith,
+          (
+            omega arith,
+            (
+              omega arith,
+              (
+                omega arith,
+                (
+                  omega arith,
+                  (
+                    omega arith,
+                    (omega arith, (omega arith, (omega arith, (omega arith, tt)))),
+                  ),
+                ),
+              ),
+            ),
+          ),
+        ),
+      ),
+    ),
+  ),
+)
+
+asked_bytes : (purpose sender : ℕ) (digest : List ℕ) → purpose < 2 ^ 8 → sender < 2 ^ 8 → AreBytes digest → AreBytes (asked purpose sender digest)
+asked_bytes purpose sender digest p s d =
+    append_bytes (key_info purpose sender digest) (1 ∷ [])
+    (append_bytes (codes "viaduct link 2") (purpose ∷ sender ∷ digest) label_bytes (p, (s, d))) (omega arith, tt)
+
 pub one_purpose : KeysHaveOnePurpose
 one_purpose = record {
   cipher = asked 0x63;
@@ -123,6 +195,7 @@ one_purpose = record {
   purposes = two_purposes;
   ciphers = same_for 0x63;
   codes = same_for 0x6d;
+  bytes = λ sender digest s d. (asked_bytes 0x63 sender digest (omega arith) s d, asked_bytes 0x6d sender digest (omega arith) s d);
 }
 
 -- ---- nonces
@@ -136,8 +209,13 @@ met_same p q m n fits other_fits e =
     let parts = behind_one p q (to_be_bytes w32 m) (to_be_bytes w32 n) (append_cancel_left (codes "nonce") (p ∷ to_be_bytes w32 m) (q ∷ to_be_bytes w32 n) e) in
     (parts.0, sym (from_be_bytes-to_be_bytes_4 m fits) ∙ ap (from_be_bytes w32) parts.1 ∙ from_be_bytes-to_be_bytes_4 n other_fits)
 
+met_bytes : (peer connection : ℕ) → peer < 2 ^ 8 → AreBytes (met peer connection)
+met_bytes peer connection p =
+    let label : AreBytes (codes "nonce") = (omega arith, (omega arith, (omega arith, (omega arith, (omega arith, tt))))) in
+    append_bytes (codes "nonce") (peer ∷ to_be_bytes w32 connection) label (p, word_bytes_small connection)
+
 pub nonces_apart : NoncesAreApart
-nonces_apart = record { message = met; hashed = λ seed peer connection. refl; apart = met_same }
+nonces_apart = record { message = met; hashed = λ seed peer connection. refl; apart = met_same; bytes = met_bytes }
 
 -- ---- hellos
 
@@ -162,6 +240,10 @@ both_same a b c d at bt ct dt e =
     let behind = (behind_two 0x47 2 0x47 2 (body a ++ hello_bytes b) (body c ++ hello_bytes d) e).2 in
     let parts = front_same (body a) (body c) (hello_bytes b) (hello_bytes d) (long a at ∙ sym (long c ct)) behind in
     (body_same a c at ct parts.0, body_same b d bt dt (behind_two 0x47 2 0x47 2 (body b) (body d) parts.1).2)
+
+hello_small : (hello : Hello) → IsOfBytes hello → AreBytes (hello_bytes hello)
+hello_small hello is =
+    (omega arith, (omega arith, append_bytes hello.id (hello.from.0 ∷ hello.to.0 ∷ hello.nonce) is.id (is.from, (is.to, is.nonce))))
 
 -- ---- digests
 
@@ -214,6 +296,10 @@ module _ (a b c d : Hello) (at : IsHello a) (bt : IsHello b) (ct : IsHello c) (d
   at_two false true h is = let same = both_same b a c d bt at ct dt is in (same.1, same.0)
   at_two false false h is = absurd (h (both_same b a d c bt at dt ct is).1.from)
 
+ordered_bytes : (first : Bool) (mine theirs : Hello) → IsOfBytes mine → IsOfBytes theirs → AreBytes (ordered first mine theirs)
+ordered_bytes true mine theirs m t = append_bytes (hello_bytes mine) (hello_bytes theirs) (hello_small mine m) (hello_small theirs t)
+ordered_bytes false mine theirs m t = append_bytes (hello_bytes theirs) (hello_bytes mine) (hello_small theirs t) (hello_small mine m)
+
 pub both_hellos : DigestsCoverBothHellos
 both_hellos = record {
   message = said;
@@ -221,4 +307,5 @@ both_hellos = record {
   both_ends = both_ends;
   at_one_host = λ a b c d at bt ct dt h e. at_one a b c d at bt ct dt (nat_lt a.from.0 b.from.0) (nat_lt c.from.0 d.from.0) h refl refl e;
   at_two_hosts = λ a b c d at bt ct dt h e. at_two a b c d at bt ct dt (nat_lt a.from.0 b.from.0) (nat_lt c.from.0 d.from.0) h e;
+  bytes = λ mine theirs. ordered_bytes (nat_lt mine.from.0 theirs.from.0) mine theirs;
 }

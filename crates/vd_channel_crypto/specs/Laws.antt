@@ -1,7 +1,7 @@
 -- That what is hashed, and what a stream begins with, tells all apart. Each law is of the key, code, digest or stream itself: it names what
--- this hashes or begins with.
-use Rattle.std.specs.Prelude.{◌≡◌, ◌≢◌, ◌<◌, ◌^◌, ℕ, List, ◌∷◌, ◌++◌, length, flat_map, slice_index}
-use Rattle.std.specs.List.{range_with_len}
+-- this hashes or begins with. What is hashed are bytes, so that lists that differ are bytes that differ.
+use Rattle.std.specs.Prelude.{◌≡◌, ◌≢◌, ◌<◌, ◌^◌, ℕ, List, ◌∷◌, ◌++◌, length, flat_map}
+use Rattle.std.specs.List.{AllByRecursion, range_with_len}
 use Rattle.std.specs.Int.{w32, to_le_bytes}
 use Rattle.sha2.specs.Sha256.{sha256}
 use Rattle.rand_chacha.specs.Block.{block_word, initial_state}
@@ -12,6 +12,9 @@ use Rattle.vd_channel_crypto.specs.Hellos.{digest_between, link_direction, nonce
 use Rattle.vd_channel_crypto.specs.Records.{Direction, record_code, sealed}
 use Rattle.vd_channel_crypto.specs.Streams.{key_stream, under}
 
+abbrev pub AreBytes : List ℕ → Type 0
+AreBytes bytes = AllByRecursion (λ b. b < 2 ^ 8) bytes
+
 -- ---- codes
 
 -- A code under a key is the digest of a message with the digest of another in it. Each of the two tells the key and what is behind it.
@@ -21,6 +24,8 @@ pub record CodesCoverTheirKeys : Type 0 where
   pub hashed : (key message : List ℕ) → hmac key message ≡ sha256 (outer key (sha256 (inner key message)))
   pub tells : (j k m n : List ℕ) → length j ≡ length k → inner j m ≡ inner k n → (j ≡ k) × (m ≡ n)
   pub tells_again : (j k m n : List ℕ) → length j ≡ length k → outer j m ≡ outer k n → (j ≡ k) × (m ≡ n)
+  pub bytes : (key message digest : List ℕ) → AreBytes key → AreBytes message → AreBytes digest
+      → AreBytes (inner key message) × AreBytes (outer key digest)
 
 -- ---- records
 
@@ -39,6 +44,7 @@ pub record CodesCoverAll : Type 0 where
   pub hashed : (keys : Direction) (number : ℕ) (covered : List ℕ)
       → record_code keys number covered ≡ hmac keys.code (message number covered)
   pub apart : (m n : ℕ) (one other : List ℕ) → m < 2 ^ 64 → n < 2 ^ 64 → message m one ≡ message n other → (m ≡ n) × (one ≡ other)
+  pub bytes : (number : ℕ) (covered : List ℕ) → length covered < 2 ^ 8 → AreBytes covered → AreBytes (message number covered)
 
 -- ---- streams
 
@@ -48,8 +54,8 @@ block_bytes key number block = flat_map (λ i. to_le_bytes w32 (block_word 10 (k
 
 -- 32 bytes
 pub record IsKey (key : List ℕ) : Type 0 where
-  pub bytes : length key ≡ 32
-  pub each : (i : ℕ) → slice_index key i < 2 ^ 8
+  pub long : length key ≡ 32
+  pub each : AreBytes key
 
 -- A stream is the first two blocks of its key and number. The state that a block begins with tells its key, its number and that of its
 -- stream.
@@ -70,6 +76,7 @@ pub record KeysHaveOnePurpose : Type 0 where
   pub purposes : (x y : ℕ) (one other : List ℕ) → cipher x one ≢ code y other
   pub ciphers : (x y : ℕ) (one other : List ℕ) → cipher x one ≡ cipher y other → (x ≡ y) × (one ≡ other)
   pub codes : (x y : ℕ) (one other : List ℕ) → code x one ≡ code y other → (x ≡ y) × (one ≡ other)
+  pub bytes : (sender : ℕ) (digest : List ℕ) → sender < 2 ^ 8 → AreBytes digest → AreBytes (cipher sender digest) × AreBytes (code sender digest)
 
 -- ---- hellos
 
@@ -78,11 +85,18 @@ pub record NoncesAreApart : Type 0 where
   pub message : (peer connection : ℕ) → List ℕ
   pub hashed : (seed : List ℕ) (peer connection : ℕ) → nonce_of seed peer connection ≡ hmac seed (message peer connection)
   pub apart : (p q m n : ℕ) → m < 2 ^ 32 → n < 2 ^ 32 → message p m ≡ message q n → (p ≡ q) × (m ≡ n)
+  pub bytes : (peer connection : ℕ) → peer < 2 ^ 8 → AreBytes (message peer connection)
 
 -- 32 bytes in each of both places
 pub record IsHello (hello : Hello) : Type 0 where
   pub id : length hello.id ≡ 32
   pub nonce : length hello.nonce ≡ 32
+
+pub record IsOfBytes (hello : Hello) : Type 0 where
+  pub id : AreBytes hello.id
+  pub from : hello.from.0 < 2 ^ 8
+  pub to : hello.to.0 < 2 ^ 8
+  pub nonce : AreBytes hello.nonce
 
 pub record SameHello (a b : Hello) : Type 0 where
   pub id : a.id ≡ b.id
@@ -100,3 +114,4 @@ pub record DigestsCoverBothHellos : Type 0 where
       → message a b ≡ message c d → SameHello a c × SameHello b d
   pub at_two_hosts : (a b c d : Hello) → IsHello a → IsHello b → IsHello c → IsHello d → a.from.0 ≢ c.from.0
       → message a b ≡ message c d → SameHello a d × SameHello b c
+  pub bytes : (mine theirs : Hello) → IsOfBytes mine → IsOfBytes theirs → AreBytes (message mine theirs)

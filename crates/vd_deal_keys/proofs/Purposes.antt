@@ -8,7 +8,8 @@ use Rattle.std.proofs.lemmas.Option.{slice_get-get_or}
 use Rattle.std.proofs.lemmas.Nat.{from_be_bytes-to_be_bytes_4}
 use Rattle.std.specs.Int.{w32, to_be_bytes, from_be_bytes}
 use Rattle.vd_deal_items.specs.declared.deal.Counts.{Counts}
-use Rattle.vd_channel_crypto.proofs.Front.{front_same, behind_two}
+use Rattle.vd_channel_crypto.proofs.Front.{append_bytes, behind_two, front_same, word_bytes_small}
+use Rattle.vd_channel_crypto.specs.Laws.{AreBytes}
 use Rattle.vd_deal_keys.specs.declared.secrets.LinkKey.{LinkKey}
 use Rattle.vd_deal_items.specs.Validity.{peer_at}
 use Rattle.vd_deal_keys.specs.Keys.{counts_bytes, id_info, items_info, link_info, link_key, link_between}
@@ -98,6 +99,30 @@ link_at counts key me place low =
     slice_get-get_or (secrets_of counts key me).links place (f place) (omega (arith, long, low))
     ∙ ap (λ (l : LinkKey). Some l) (get_or-map-range_with_len f 0 (counts.hosts - 1) place place (f place) low (omega arith))
 
+counts_small : (c : Counts) → c.hosts < 2 ^ 8 → AreBytes (counts_bytes c)
+counts_small c h = (
+  h,
+  append_bytes (to_be_bytes w32 c.own) (to_be_bytes w32 c.muls ++ (to_be_bytes w32 c.ands ++ to_be_bytes w32 c.pairs)) (word_bytes_small c.own)
+      (append_bytes (to_be_bytes w32 c.muls) (to_be_bytes w32 c.ands ++ to_be_bytes w32 c.pairs) (word_bytes_small c.muls)
+      (append_bytes (to_be_bytes w32 c.ands) (to_be_bytes w32 c.pairs) (word_bytes_small c.ands) (word_bytes_small c.pairs))),
+)
+
+asked_small : (label info : List ℕ) → AreBytes label → AreBytes info → AreBytes (asked (label ++ info))
+asked_small label info l i = append_bytes (label ++ info) (1 ∷ []) (append_bytes label info l i) (omega arith, tt)
+
+small : (c : Counts) (a b : ℕ) → c.hosts < 2 ^ 8 → a < 2 ^ 8 → b < 2 ^ 8
+    → AreBytes (asked (id_info c)) × AreBytes (asked (items_info c)) × AreBytes (asked_link c a b)
+small c a b h at bt =
+    let of_id : AreBytes (codes "id") = (omega arith, (omega arith, tt)) in
+    let of_items : AreBytes (codes "items") = (omega arith, (omega arith, (omega arith, (omega arith, (omega arith, tt))))) in
+    let of_link : AreBytes (codes "link") = (omega arith, (omega arith, (omega arith, (omega arith, tt)))) in
+    let ends : AreBytes (min a b ∷ max a b ∷ []) = (omega (arith, at, bt), (omega (arith, at, bt), tt)) in (
+      asked_small (codes "id") (counts_bytes c) of_id (counts_small c h),
+      asked_small (codes "items") (counts_bytes c) of_items (counts_small c h),
+      asked_small (codes "link") (counts_bytes c ++ min a b ∷ max a b ∷ []) of_link
+          (append_bytes (counts_bytes c) (min a b ∷ max a b ∷ []) (counts_small c h) ends),
+    )
+
 pub apart : PurposesAreApart
 apart = record {
   id = λ c. asked (id_info c);
@@ -113,6 +138,7 @@ apart = record {
   each_items = λ c d at bt e.
       counts_same c d at bt (append_cancel_left (codes "items") (counts_bytes c) (counts_bytes d) (without_last (items_info c) (items_info d) e));
   links = links_same;
+  bytes = small;
 }
 
 one_link : (counts : Counts) (key : List ℕ) (one other : ℕ) → link_between counts key one other ≡ link_between counts key other one

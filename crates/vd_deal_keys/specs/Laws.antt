@@ -1,9 +1,10 @@
 -- That each key has one purpose, and that both ends of a link have one key. The laws are of what a host is given, and name what is hashed
--- for it.
+-- for it, which are bytes.
 use Rattle.std.specs.Prelude.{◌≡◌, ◌≢◌, ◌<◌, ◌-◌, ◌^◌, ◌⊎◌, ℕ, List, Some, slice_get}
 use Rattle.vd_deal_items.specs.declared.deal.Counts.{Counts}
 use Rattle.vd_deal_items.specs.Validity.{peer_at}
 use Rattle.vd_channel_crypto.specs.Codes.{hmac}
+use Rattle.vd_channel_crypto.specs.Laws.{AreBytes}
 use Rattle.vd_deal_keys.specs.declared.secrets.LinkKey.{LinkKey}
 use Rattle.vd_deal_keys.specs.Keys.{items_key, salt}
 use Rattle.vd_deal_keys.specs.Secrets.{secrets_of}
@@ -45,6 +46,8 @@ pub record PurposesAreApart : Type 0 where
   pub ids : (c d : Counts) → AreWords c → AreWords d → id c ≡ id d → SameCounts c d
   pub each_items : (c d : Counts) → AreWords c → AreWords d → items c ≡ items d → SameCounts c d
   pub links : (c d : Counts) (a b x y : ℕ) → AreWords c → AreWords d → link c a b ≡ link d x y → SameCounts c d × SameEnds a b x y
+  pub bytes : (c : Counts) (a b : ℕ) → c.hosts < 2 ^ 8 → a < 2 ^ 8 → b < 2 ^ 8
+      → AreBytes (id c) × AreBytes (items c) × AreBytes (link c a b)
 
 -- what two hosts are given for the link between them is one key
 abbrev pub LinksHaveOneKey : Type 0
