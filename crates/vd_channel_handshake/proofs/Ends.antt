@@ -6,7 +6,6 @@ use Rattle.vd_channel_crypto.specs.declared.hellos.Hello.{Hello}
 use Rattle.vd_channel_crypto.specs.declared.records.Keys.{Keys}
 use Rattle.vd_channel_crypto.proofs.Front.{both_ends}
 use Rattle.vd_channel_handshake.specs.Laws.{EndsHaveTheSameKeys}
-use Rattle.vd_channel_handshake.specs.Meeting.{HaveMet}
 
 -- the keys that one end sends by are those that the other receives by, given the hello that it heard
 one_way : (mine theirs heard said : Hello) (key : List ℕ) (ours others : Keys) → mine.from.0 ≢ theirs.from.0 → heard ≡ theirs → said ≡ mine
