@@ -1,5 +1,5 @@
 -- A commitment binds whoever departs from its program, as long as the other host keeps to it.
-use Rattle.std.proofs.Common.{◌≡◌, ◌≢◌, ℕ, ◌+◌, ◌<◌, ◌≤◌, ◌⊎◌, inl, inr, Bool, true, List, [], ◌∷◌, length, slice_index, refl, sym, ap, ap₂, subst, ◌∙◌, arith}
+use Rattle.std.proofs.Common.{◌≡◌, ◌≢◌, ℕ, ◌+◌, ◌%◌, ◌^◌, ◌<◌, ◌≤◌, ◌⊎◌, inl, inr, Bool, true, List, [], ◌∷◌, length, slice_index, refl, sym, ap, ap₂, subst, ◌∙◌, arith}
 use native.Mathlib.Decide.{ℕ_discrete}
 use Rattle.vd_base.specs.declared.ids.HostId.{HostId}
 use Rattle.vd_execution.specs.declared.instructions.Action.TheVariants as action
@@ -16,7 +16,9 @@ use Rattle.vd_commit.specs.declared.ends.Seen.{Seen}
 use Rattle.vd_commit.specs.Commit.{eight, revealed, same_each}
 use Rattle.vd_commit.proofs.Front.{IsRow, digest_count, eight_row, hash_adds, words_alike, words_are}
 use Rattle.vd_integrity_backends.specs.Departing.{AreStill, RunsGadgets, after_telling}
-use Rattle.vd_integrity_backends.specs.Commitments.{Collide, CommitmentsBind, IsOpened}
+use Rattle.vd_integrity_backends.specs.Commitments.{CommitmentsBind, IsOpened}
+use Rattle.vd_integrity_backends.specs.Digests.{Collide}
+use Rattle.vd_integrity_backends.proofs.Digests.{collides, last_same}
 
 -- registers in a row that are written
 each_below : (f : Registers) (r : ℕ) (rs : List Reg) (ws : List ℕ) (q : ℕ) → IsRow r rs → q < r → put_each f rs ws q ≡ f q
@@ -136,12 +138,16 @@ module _ (keeps : ℕ → Bool) (t : Tape) (v : HostId) where
     kept_digest : words_from (w' v.0).registers seen.digest.0 8 ≡ words_from (w v.0).registers seen.digest.0 8
     kept_digest = words_alike (w' v.0).registers (w v.0).registers seen.digest.0 seen.digest.0 8 (λ i few. still v.0 (seen.digest.0 + i) (omega (arith, low, few)))
 
-    -- the word that was told is that one, or two words have one digest
-    either_word : (x : ℕ) (other : List ℕ) → words_from (w v.0).registers seen.digest.0 8 ≡ digest_of other x → keeps v.0 ≡ true → ((w' v.0).registers (slice_index next v.0) ≡ x) ⊎ Collide
+    -- the word that was told is that one, or two texts collide
+    either_word : (x : ℕ) (other : List ℕ) → words_from (w v.0).registers seen.digest.0 8 ≡ digest_of other x → keeps v.0 ≡ true
+        → ((w' v.0).registers (slice_index next v.0) % 2 ^ 32 ≡ x % 2 ^ 32) ⊎ Collide
     either_word x other is keep =
-        elim (ℕ_discrete ((w' v.0).registers (slice_index next v.0)) x) [
+        elim (ℕ_discrete ((w' v.0).registers (slice_index next v.0) % 2 ^ 32) (x % 2 ^ 32)) [
           | yes e ↦ inl e
-          | no d ↦ inr (record { word = (w' v.0).registers (slice_index next v.0); other = x; nonce = nonce; other_nonce = other; differ = d; same = sym (bound keep) ∙ kept_digest ∙ is })
+          | no d ↦ inr (
+              collides nonce other ((w' v.0).registers (slice_index next v.0)) x (λ e. d (last_same nonce other ((w' v.0).registers (slice_index next v.0)) x e))
+              (sym (bound keep) ∙ kept_digest ∙ is)
+              )
         ]
 
     own_word : (x : ℕ) → (w p.0).registers held.value.0 ≡ x → keeps p.0 ≡ true → (w' v.0).registers (slice_index next v.0) ≡ x

@@ -4,6 +4,7 @@ mod Local
 mod Each
 mod Shown
 mod Copies
+mod Digests
 mod Commitments
 mod Shares
 mod OneWord

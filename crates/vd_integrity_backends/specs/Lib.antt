@@ -1,5 +1,6 @@
 pub mod Departing
 pub mod Copies
+pub mod Digests
 pub mod Commitments
 pub mod Shares
 pub mod Example

@@ -3,6 +3,7 @@
 ghost use Rattle.vd_integrity_backends.specs.Commitments.{CommitmentsBind};
 ghost use Rattle.vd_integrity_backends.specs.Copies.{CopiesStayRight, OneWordIsRight};
 ghost use Rattle.vd_integrity_backends.specs.Departing.{KeepersRunTogether};
+ghost use Rattle.vd_integrity_backends.specs.Digests.{DigestsTellTheirWords};
 ghost use Rattle.vd_integrity_backends.specs.Example.{TwoWordsForOne};
 ghost use Rattle.vd_integrity_backends.specs.Shares.{SharesAreKept};
 
@@ -22,8 +23,14 @@ pub fn one_word_to_all_is_right()
     ensures { OneWordIsRight }
 {}
 
+/// The digest of a commitment is the SHA-256 of its nonce and word. Two that are the same are of one nonce and one word, or two texts are
+/// at hand that differ and have one SHA-256.
+pub fn digests_tell_their_words()
+    ensures { DigestsTellTheirWords }
+{}
+
 /// Of a commitment the word that is shown is the one that it was made for, as long as one of the two hosts keeps to its program; or two
-/// words are at hand that have one digest.
+/// texts are at hand that differ and have one SHA-256.
 pub fn commitments_bind()
     ensures { CommitmentsBind }
 {}
