@@ -1,8 +1,8 @@
 //! Marks as files of a directory.
 
-ghost use Rattle.std.specs.Prelude.{◌≡◌, IsTrue, None, OnOk, Some, false, IfOk, string_bytes};
-ghost use Rattle.vd_edge.specs.Store.{Same};
-ghost use Rattle.vd_outside_marks.specs.Marks.{Claims, Draws, Releases};
+ghost use Rattle.std.specs.Prelude.{◌≡◌, IsTrue, None, OnErr, OnOk, Some, false, IfOk, string_bytes};
+ghost use Rattle.vd_edge.specs.Store.{Same, SameElse};
+ghost use Rattle.vd_outside_marks.specs.Marks.{Claims, Draws, Releases, Stays};
 ghost use Rattle.vd_outside_marks.specs.Places.{mark_at};
 ghost use Rattle.vd_edge_marks.specs.Views.{marks_view};
 
@@ -52,6 +52,8 @@ fn make<D: Directory>(directory: &mut D, place: &str, bytes: &[u8]) -> io::Resul
     ensures all { IfOk result (λ new. IsTrue new → IsTrue D.tells → D.holds directory.new place.now ≡ Some bytes.now) }
     ensures settled { IfOk result (λ new. IsTrue new → D.settles directory.new place.now) }
     ensures kept { IfOk result (λ new. new ≡ false → IsTrue D.tells → Same (D.holds directory.old) (D.holds directory.new)) }
+    ensures others { IsTrue D.tells → SameElse place.now (D.holds directory.old) (D.holds directory.new) }
+    ensures stays { OnErr result (IsTrue D.tells → Stays place.now (D.holds directory.old) (D.holds directory.new)) }
 {
     match directory.create(place, Access::Private) {
         Ok(()) => {}
@@ -110,6 +112,10 @@ impl<D: Directory + Drop, R: Randomness + Drop> Marks for RealMarks<D, R> {
         ensures settled { IfOk result (λ new. IsTrue new → D.settles self.new.directory (mark_at beside.now name.now)) }
         ensures kept { IfOk result (λ new. new ≡ false → IsTrue D.tells →
             Same (D.holds self.old.directory) (D.holds self.new.directory)) }
+        ensures others { IsTrue D.tells →
+            SameElse (mark_at beside.now name.now) (D.holds self.old.directory) (D.holds self.new.directory) }
+        ensures stays { OnErr result (IsTrue D.tells →
+            Stays (mark_at beside.now name.now) (D.holds self.old.directory) (D.holds self.new.directory)) }
     {
         let made = match place_of(self.alloc, beside, name) {
             Ok(place) => make(&mut self.directory, place.as_str(), bytes),
@@ -129,6 +135,8 @@ impl<D: Directory + Drop, R: Randomness + Drop> Marks for RealMarks<D, R> {
     fn release(&mut self, beside: &str, name: &[u8]) -> Result<(), CallFault>
         ensures releases { Releases beside.now name.now (marks_view self.old.faults) (marks_view self.new.faults) result }
         ensures gone { OnOk result (IsTrue D.tells → D.holds self.new.directory (mark_at beside.now name.now) ≡ None) }
+        ensures others { IsTrue D.tells →
+            SameElse (mark_at beside.now name.now) (D.holds self.old.directory) (D.holds self.new.directory) }
     {
         let removed = match place_of(self.alloc, beside, name) {
             Ok(place) => self.directory.remove(place.as_str()),
@@ -138,9 +146,8 @@ impl<D: Directory + Drop, R: Randomness + Drop> Marks for RealMarks<D, R> {
             Ok(()) => Ok(()),
             Err(error) => {
                 self.reason = reason_of(self.alloc, "unmark", beside, &error);
-                let fault = fault_of(&error);
-                count_fault(&mut self.faults, fault);
-                Err(fault)
+                count_fault(&mut self.faults, CallFault::Failed);
+                Err(fault_of(&error))
             }
         }
     }

@@ -1,4 +1,5 @@
 mod Children
+mod Freed
 mod Fresh
 mod Pieces
 mod Places

@@ -40,6 +40,18 @@ StoreFailsAsListed before (Ok done) now = (fails_next before ≡ false) × (now 
 StoreFailsAsListed before (Err call_fault.Failed) now = (fails_next before ≡ true) × (now ≡ with_fault before)
 StoreFailsAsListed before (Err call_fault.Memory) now = now ≡ with_call before
 
+-- where memory does not run out, a call fails if it is told to
+abbrev pub FailsAsTold : {T : Type 0} → (fails : Bool) → Result T CallFault → Type 0
+FailsAsTold fails (Ok done) = fails ≡ false
+FailsAsTold fails (Err call_fault.Failed) = fails ≡ true
+FailsAsTold fails (Err call_fault.Memory) = Unit {0}
+
+-- The same for a release, which fails for want of memory too.
+abbrev pub ReleaseFailsAsListed : {T : Type 0} → Failures → Result T CallFault → Failures → Type 0
+ReleaseFailsAsListed before (Ok done) now = (fails_next before ≡ false) × (now ≡ with_call before)
+ReleaseFailsAsListed before (Err call_fault.Failed) now = (fails_next before ≡ true) × (now ≡ with_fault before)
+ReleaseFailsAsListed before (Err call_fault.Memory) now = now ≡ with_fault before
+
 -- failures at the calls with these numbers, before the first call
 abbrev pub failures_at : List ℕ → Failures
 failures_at failing = record { failing = failing; calls = 0; faults = 0 }

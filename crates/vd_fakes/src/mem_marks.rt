@@ -1,10 +1,13 @@
 //! Marks in memory.
 
-ghost use Rattle.std.specs.Prelude.{◌≡◌, [], Some, None, IfOk, is_some};
-ghost use Rattle.vd_fakes.specs.Failing.{StoreFailsAsListed, failures_at};
+ghost use Rattle.std.specs.Prelude.{◌≡◌, [], Some, None, IfOk, OnOk, OnErr, is_some};
+ghost use Rattle.vd_outside.specs.Causes.{asked_after};
+ghost use Rattle.vd_outside.specs.Files.{with_content};
+ghost use Rattle.vd_fakes.specs.Failing.{FailsAsTold, ReleaseFailsAsListed, StoreFailsAsListed, failures_at};
 ghost use Rattle.vd_outside_marks.specs.Marks.{Claims, Draws, Releases};
 ghost use Rattle.vd_fakes.specs.MemMarks.{DrawFailsAsListed, marks_view, taken_of};
 ghost use Rattle.vd_outside_marks.specs.Places.{mark_at};
+ghost use Rattle.vd_outside_marks.specs.declared.marks.MarksCall.TheVariants.{Release};
 
 use crate::Failures;
 use std::alloc::{AllocError, Global};
@@ -72,6 +75,31 @@ impl MemMarks {
     }
 }
 
+impl MemMarks {
+    /// Makes a place free again, if that is not to fail. Nothing is counted.
+    fn free(&mut self, beside: &str, name: &[u8], fails: bool) -> Result<(), CallFault>
+        ensures counts { self.new.failures ≡ self.old.failures }
+        ensures draws { self.new.draws ≡ self.old.draws }
+        ensures asked { self.new.asked ≡ asked_after self.old.asked (Release (mark_at beside.now name.now)) result }
+        ensures free { OnOk result (taken_of self.new.marks ≡ with_content (taken_of self.old.marks) (mark_at beside.now name.now) None) }
+        ensures kept { OnErr result (self.new.marks ≡ self.old.marks) }
+        ensures told { FailsAsTold fails result }
+    {
+        let call = MarksCall::Release(mark_at(self.alloc, beside, name)?);
+        let mark = Mark::free(self.alloc, beside, name)?;
+        if fails {
+            self.asked.push(call)?;
+            return Err(CallFault::Failed);
+        }
+        self.marks.put_first(mark)?;
+        if let Err(error) = self.asked.push(call) {
+            self.marks.remove(0);
+            return Err(error.into());
+        }
+        Ok(())
+    }
+}
+
 /// Whether a place is taken.
 fn is_taken(marks: &[Mark], place: &[u8]) -> bool
     ensures { result ≡ is_some (taken_of marks.now place.now) }
@@ -128,23 +156,18 @@ impl Marks for MemMarks {
         Ok(true)
     }
 
+    #[tactic(auto, using(crate::proofs::Freed::others_stay))]
     fn release(&mut self, beside: &str, name: &[u8]) -> Result<(), CallFault>
         ensures releases { Releases beside.now name.now (marks_view self.old) (marks_view self.new) result }
-        ensures listed { StoreFailsAsListed self.old.failures result self.new.failures }
+        ensures listed { ReleaseFailsAsListed self.old.failures result self.new.failures }
     {
         let fails = self.failures.next_fails();
-        let call = MarksCall::Release(mark_at(self.alloc, beside, name)?);
-        let mark = Mark::free(self.alloc, beside, name)?;
-        if fails {
-            self.asked.push(call)?;
-            self.failures.count_fault();
-            return Err(CallFault::Failed);
+        match self.free(beside, name, fails) {
+            Ok(()) => Ok(()),
+            Err(fault) => {
+                self.failures.count_fault();
+                Err(fault)
+            }
         }
-        self.marks.put_first(mark)?;
-        if let Err(error) = self.asked.push(call) {
-            self.marks.remove(0);
-            return Err(error.into());
-        }
-        Ok(())
     }
 }

@@ -25,10 +25,11 @@ pub trait Marks {
         ensures { Draws (view self.old) (view self.new) result };
 
     /// Takes a name in the folder of a file, with these bytes, if it is free, and says whether it was: of any two that try, one gets it.
+    /// What is taken stays as it is, whatever comes of the call.
     fn claim(&mut self, beside: &str, name: &[u8], bytes: &[u8]) -> Result<bool, CallFault>
         ensures { Claims beside.now name.now bytes.now (view self.old) (view self.new) result };
 
-    /// Makes a name in the folder of a file free again.
+    /// Makes a name in the folder of a file free again. Where that is not done it is a fault, also for want of memory.
     fn release(&mut self, beside: &str, name: &[u8]) -> Result<(), CallFault>
         ensures { Releases beside.now name.now (view self.old) (view self.new) result };
 }
