@@ -1,5 +1,5 @@
 -- How the command ends, by what its host does.
-use Rattle.std.proofs.Common.{arith, ◌≡◌, ℕ, List, true, false, Option, Some, None, Result, Ok, Err, refl, sym, ap, subst, ◌∙◌}
+use Rattle.std.proofs.Common.{arith, ◌≡◌, ℕ, List, true, false, inl, Option, Some, None, Result, Ok, Err, refl, sym, ap, subst, ◌∙◌}
 use Rattle.std.specs.Prelude.{MatchOption, is_some}
 use Rattle.vd_outside.specs.Files.{FilesView}
 use Rattle.vd_outside.specs.Net.{NetView}
@@ -50,6 +50,10 @@ nothing_claimed words id program same = record {
   still_told = λ told. told;
   fresh = λ told. tt;
   marked = λ told. tt;
+  alone = λ told. tt;
+  kept = λ told. refl;
+  asked = λ told. tt;
+  asked_until = λ told. inl refl;
   name = tt;
   drawn = λ told. tt;
   used = λ told name e. absurd (cc e);

@@ -1,4 +1,6 @@
 pub mod Front
+mod Apart
+mod Claiming
 mod Ends
 mod Files
 mod InputLists
@@ -8,3 +10,4 @@ mod Named
 mod Refusals
 mod Running
 mod Runs
+mod Twice

@@ -1,12 +1,15 @@
 -- The mark of a deal: a deal of version 2 is used once.
-use Rattle.std.specs.Prelude.{◌≡◌, ◌≤◌, ◌≢◌, ℕ, Bool, true, false, IsTrue, List, [], ◌∷◌, ◌++◌, take, codes, Some, None, Result, Ok, Err, IfOk, IfErr}
+use Rattle.std.specs.Prelude.{◌≡◌, ◌≤◌, ◌≢◌, ◌⊎◌, ℕ, Bool, true, false, IsTrue, List, [], ◌∷◌, ◌++◌, take, codes, Some, None, Result, Ok, Err, IfOk, IfErr}
 use Rattle.std.specs.Fmt.{decimal}
 use Rattle.vd_base.specs.declared.faults.CallFault.{CallFault}
 use Rattle.vd_base_codec.specs.Reading.{field}
 use Rattle.vd_base_codec.specs.Digits.{key_text}
 use Rattle.vd_outside.specs.Causes.{Rose}
-use Rattle.vd_outside_marks.specs.Marks.{MarksView, Releases}
+use Rattle.vd_outside.specs.Files.{Contents, with_content}
+use Rattle.vd_outside_marks.specs.Marks.{MarksView, Releases, Stays}
 use Rattle.vd_outside_marks.specs.Places.{mark_at}
+use Rattle.vd_outside_marks.specs.declared.marks.MarksCall.{MarksCall}
+use Rattle.vd_outside_marks.specs.declared.marks.MarksCall.TheVariants.{Draw, Claim}
 use Rattle.vd_cmd.specs.declared.command.HostWords.{HostWords}
 use Rattle.vd_host_text.specs.declared.program.HostProgram.{HostProgram}
 use Rattle.vd_cmd_plan.specs.declared.status.Status.{Status}
@@ -44,6 +47,21 @@ HasMarksCause before now (status.ReadFault name) = Rose before.faults now.faults
 HasMarksCause before now status.WriteFault = Rose before.faults now.faults
 HasMarksCause before now other = Unit {0}
 
+-- After a refusal all marks are what they were. Where a mark could not be written, at most that one stands now, and only where none stood.
+abbrev pub KeepsMarks : (place : List ℕ) → (before now : Contents) → Status → Type 0
+KeepsMarks place before now status.WriteFault = Stays place before now
+KeepsMarks place before now other = now ≡ before
+
+-- the calls of a mark that is taken: bytes are drawn, and only then it is claimed
+abbrev pub with_claim : (place : List ℕ) → (asked : List MarksCall) → List MarksCall
+with_claim place asked = asked ++ Draw ∷ [] ++ Claim place ∷ []
+
+-- The calls before a refusal, behind which there is none. Without a draw the mark is not claimed.
+abbrev pub AsksUntil : (place : List ℕ) → (before now : List MarksCall) → Status → Type 0
+AsksUntil place before now status.Memory = (now ≡ before) ⊎ (now ≡ before ++ Draw ∷ [])
+AsksUntil place before now (status.ReadFault name) = now ≡ before ++ Draw ∷ []
+AsksUntil place before now other = now ≡ with_claim place before
+
 -- 32 bytes are drawn, and then the mark is taken, which nobody had. Where somebody had it, it stays as it was, and the deal is used.
 pub record Claims (words : HostWords) (id : List ℕ) (program : HostProgram) (before now : MarksView) (result : Result Claimed Status) : Type 0 where
   pub later : before.faults ≤ now.faults
@@ -52,6 +70,10 @@ pub record Claims (words : HostWords) (id : List ℕ) (program : HostProgram) (b
   pub still_told : IsTrue before.told → IsTrue now.told
   pub fresh : IsTrue before.told → IfOk result (λ claimed. before.taken (mark_of words id program) ≡ None)
   pub marked : IsTrue before.told → IfOk result (λ claimed. now.taken (mark_of words id program) ≡ Some (mark_text id program))
+  pub alone : IsTrue before.told → IfOk result (λ claimed. now.taken ≡ with_content before.taken (mark_of words id program) (Some (mark_text id program)))
+  pub kept : IsTrue before.told → IfErr result (KeepsMarks (mark_of words id program) before.taken now.taken)
+  pub asked : IsTrue before.told → IfOk result (λ claimed. now.asked ≡ with_claim (mark_of words id program) before.asked)
+  pub asked_until : IsTrue before.told → IfErr result (AsksUntil (mark_of words id program) before.asked now.asked)
   pub name : IfOk result (λ claimed. claimed.name ≡ mark_name id program.me.0)
   pub drawn : IsTrue before.told → IfOk result (λ claimed. before.draws ≡ claimed.seed ∷ now.draws)
   pub used : IsTrue before.told → (name : List ℕ) → result ≡ Err (status.DealUsed name) → before.taken (mark_of words id program) ≢ None

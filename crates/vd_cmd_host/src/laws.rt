@@ -1,7 +1,7 @@
 //! What holds of each run of the command, and the first three of those with a deal of version 1. Nothing is computed here: the functions' clauses are laws.
 
 ghost use Rattle.vd_cmd_host.specs.Laws.{HostsAskInOrder, LinksComeBack, StatusesHaveCauses};
-ghost use Rattle.vd_cmd_host.specs.Once.{DealsAreUsedOnce};
+ghost use Rattle.vd_cmd_host.specs.Once.{DealsAreUsedOnce, MarksStandByDeals, MarksTell, NamesAreApart, NoDealServesTwice, UsedDealsStayMarked};
 
 /// A net is asked for a prefix of the host's calls and for no other: for all with status 0, and for none where the files were
 /// not loaded.
@@ -24,4 +24,20 @@ pub fn links_come_back()
 /// there now: no second run passes.
 pub fn deals_are_used_once()
     ensures { DealsAreUsedOnce }
+{}
+
+/// Every program of a host finds the mark of a deal: it stands in the folder of the deal's file, by the host's number and the name of the
+/// dealing. The marks of two hosts have two names, and so have those of two dealings whose names differ in their first half. What stands in
+/// a mark tells the dealing, the host and the plan.
+pub fn marks_are_apart()
+    ensures place { MarksStandByDeals }
+    ensures names { NamesAreApart }
+    ensures texts { MarksTell }
+{}
+
+/// Of two runs of a host with deals of one dealing in one folder, only one sends anything behind its greetings, as long as the mark of the
+/// first stands. And a run whose deal is refused as used leaves all marks as they were, and asks nothing of the net.
+pub fn no_deal_serves_twice()
+    ensures once { NoDealServesTwice }
+    ensures refused { UsedDealsStayMarked }
 {}
