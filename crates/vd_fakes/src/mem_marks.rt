@@ -156,7 +156,6 @@ impl Marks for MemMarks {
         Ok(true)
     }
 
-    #[tactic(auto, using(crate::proofs::Freed::others_stay))]
     fn release(&mut self, beside: &str, name: &[u8]) -> Result<(), CallFault>
         ensures releases { Releases beside.now name.now (marks_view self.old) (marks_view self.new) result }
         ensures listed { ReleaseFailsAsListed self.old.failures result self.new.failures }
