@@ -1,5 +1,5 @@
 -- The files that `deal` stores for a key of 32 bytes are read as the deals that were made, and `replay` goes on with them.
-use Rattle.std.proofs.Common.{◌≡◌, ℕ, ◌+◌, ◌<◌, ◌≤◌, Option, Some, None, List, [], map, length, Ok, refl, sym, ap, ◌∙◌, subst, arith, slice_get}
+use Rattle.std.proofs.Common.{◌≡◌, ℕ, ◌+◌, ◌<◌, ◌≤◌, Option, Some, None, List, [], map, length, Ok, refl, sym, ap, ◌∙◌, subst, arith, slice_get, slice_index}
 use Rattle.std.specs.Prelude.{codes, nat_lt}
 use Rattle.std.specs.Option.{option_map}
 use Rattle.std.proofs.lemmas.Bool.{cond-false}
@@ -12,7 +12,7 @@ use Rattle.vd_outside.specs.declared.stored.Stored.{Stored}
 use Rattle.vd_deal_items.specs.declared.deal.Counts.{Counts}
 use Rattle.vd_deal_items.specs.declared.deal.Deal.{Deal}
 use Rattle.vd_deal_items.specs.Validity.{AreDeals, IsConsistent}
-use Rattle.vd_deal_keys.specs.Keys.{items_key}
+use Rattle.vd_deal_keys.specs.Keys.{id_info, items_info, items_key, link_info}
 use Rattle.vd_deal_keys.specs.Secrets.{secrets_of}
 use Rattle.vd_tape.specs.Made.{AreCounts, keyed_deal, keyed_deals}
 use Rattle.vd_tape.proofs.Front.{consistent_if_keyed, valid_if_keyed, count_of_keyed, keyed_of}
@@ -26,7 +26,7 @@ use Rattle.vd_report_laws.proofs.Front.{judged_once}
 use Rattle.vd_cmd_files.specs.Deals.{HoldDeals, HoldsDeal, as_consistent}
 use Rattle.vd_cmd_choice_laws.proofs.Front.{standing}
 use Rattle.vd_cmd_deal_laws.specs.Dealt.{AreTaken}
-use Rattle.vd_cmd_deal_laws.specs.KeyedDealt.{HoldsKeyed, KeyedDealsTell}
+use Rattle.vd_cmd_deal_laws.specs.KeyedDealt.{HoldsKeyed, IsForNoOther, KeyedDealsTell}
 use Rattle.vd_cmd_deal_laws.proofs.SecretShort.{secret_texts_are_short}
 use Rattle.vd_cmd_deal_laws.proofs.Taken.{HoldLeft, are_numbered, deals_lead, enough}
 
@@ -88,12 +88,22 @@ module _ (counts : Counts) (key prefix : List ℕ) (before : Contents) (are : Ar
       slice_get-get_or deals number (keyed_deal counts (items_key counts key) number) (omega (arith, count, below))
       ∙ ap (λ (d : Deal). Some d) (get_or-map-range_with_len (keyed_deal counts (items_key counts key)) 0 counts.hosts number number (keyed_deal counts (items_key counts key) number) below (omega arith))
 
-  secret : (number : ℕ) → number < counts.hosts → HoldsKeyed counts key prefix now number
+  secret : (number : ℕ) → number < counts.hosts → HoldsKeyed counts key (items_key counts key) prefix now number
   secret number below = record {
     bytes = keyed_deal_text counts key (keyed_deal counts (items_key counts key) number);
     is_fetched = stands number (keyed_deal counts (items_key counts key) number) (there number below);
     holds = (fits number (keyed_deal counts (items_key counts key) number) (there number below), refl);
   }
+
+no_name : (c d : Counts) → items_info c ≡ id_info d → ⊥
+no_name c d e = let second : 116 ≡ 100 = ap (λ (xs : List ℕ). slice_index xs 1) e in omega (arith, second)
+
+no_link : (c d : Counts) (a b : ℕ) → items_info c ≡ link_info d a b → ⊥
+no_link c d a b e = let first : 105 ≡ 108 = ap (λ (xs : List ℕ). slice_index xs 0) e in omega (arith, first)
+
+-- the key of the items
+for_items : (counts : Counts) (key : List ℕ) → IsForNoOther (items_key counts key) key
+for_items counts key = record { purpose = items_info counts; is = refl; no_name = no_name counts; no_link = no_link counts }
 
 pub keyed_deals_tell : KeyedDealsTell
 keyed_deals_tell counts key prefix before are = record {
@@ -105,5 +115,7 @@ keyed_deals_tell counts key prefix before are = record {
     taken = taken counts key prefix before are;
     judged = judged counts key prefix before are;
   };
+  items = items_key counts key;
+  apart = for_items counts key;
   secrets = secret counts key prefix before are;
 }

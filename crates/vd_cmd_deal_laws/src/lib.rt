@@ -11,8 +11,8 @@ pub fn dealt_files_are_taken()
     ensures short { DealTextsAreShort }
 {}
 
-/// So are those that it stores for a key of 32 bytes; each has besides the name of the dealing and the keys of its host's links. No
-/// text of such a deal is longer than one that is read may be.
+/// So are those that it stores for a key of 32 bytes; each has besides the name of the dealing and the keys of its host's links. Their
+/// items are made of a key that is hashed of other bytes than these. No text of such a deal is longer than one that is read may be.
 pub fn keyed_dealt_files_are_taken()
     ensures deals { KeyedDealsTell }
     ensures short { SecretTextsAreShort }
