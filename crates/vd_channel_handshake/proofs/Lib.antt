@@ -1,3 +1,4 @@
 mod Ends
 mod Greeted
 mod Refusing
+mod Saying

@@ -107,6 +107,20 @@ pub record Proves (ours theirs : Direction) (before now : LinkView) (result : Re
   pub sent : IsTrue now.told → OnOk result (now.sent ≡ before.sent ++ sealed ours 0 [])
   pub came : IsTrue now.told → OnOk result (before.coming ≡ sealed theirs 0 [] ++ now.coming)
 
+-- what an end that heard this hello says before any other record: its own hello, and the first record of its direction
+abbrev pub greeting : (key : List ℕ) → (mine theirs : Hello) → List ℕ
+greeting key mine theirs = hello_bytes mine ++ sealed (link_direction key mine.from.0 (digest_between mine theirs)) 0 []
+
+-- no more than a prefix of it went out
+pub record SaysNoMore (mine : Hello) (key : List ℕ) (before now : LinkView) : Type 0 where
+  pub theirs : Hello
+  pub count : ℕ
+  pub sent : now.sent ≡ before.sent ++ take count (greeting key mine theirs)
+
+-- no more than a prefix of these bytes went out
+abbrev pub SendsNoMore : (bytes : List ℕ) → (before now : LinkView) → Type 0
+SendsNoMore bytes before now = IsTrue now.told → (count : ℕ) × (now.sent ≡ before.sent ++ take count bytes)
+
 -- Both said hello and proved that they have the key: these are the keys that the two hellos make of it.
 pub record HaveMet (mine : Hello) (key : List ℕ) (before now : LinkView) (keys : Keys × Keys) : Type 0 where
   pub theirs : Hello

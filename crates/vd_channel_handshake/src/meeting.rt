@@ -1,7 +1,11 @@
 //! How both ends of a sealed link begin: each says a hello, and then proves that it has the key of the link.
 
+ghost use Rattle.std.specs.Prelude.{IsTrue, []};
+ghost use Rattle.vd_channel_crypto.specs.Hellos.{hello_bytes};
 ghost use Rattle.vd_channel_crypto.specs.Keys.{direction};
-ghost use Rattle.vd_channel_handshake.specs.Meeting.{IsMeetFault, IsProofFault, Meets, Proves, RefusesFor, RefusesHello, Says, TakesHello};
+ghost use Rattle.vd_channel_crypto.specs.Records.{sealed};
+ghost use Rattle.vd_channel_handshake.specs.Meeting.{IsMeetFault, IsProofFault, Meets, Proves, RefusesFor, RefusesHello, Says};
+ghost use Rattle.vd_channel_handshake.specs.Meeting.{SaysNoMore, SendsNoMore, TakesHello};
 
 use vd_base::HostId;
 use vd_channel_crypto::{Frame, Hello, Keys};
@@ -52,6 +56,7 @@ fn exchange_hellos<L: Link>(
     mine: &Hello,
 ) -> Result<Hello, SealFault>
     ensures says { Says mine.now (L.view link.old) (L.view link.new) result }
+    ensures out { SendsNoMore (hello_bytes mine.now) (L.view link.old) (L.view link.new) }
     ensures refused { RefusesHello mine.now.id mine.now.to mine.now.from (L.view link.old) (L.view link.new) result }
 {
     frame.set_hello(mine);
@@ -70,6 +75,7 @@ fn prove_both<L: Link>(
     theirs: &Keys,
 ) -> Result<(), SealFault>
     ensures proves { Proves (direction ours.now) (direction theirs.now) (L.view link.old) (L.view link.new) result }
+    ensures out { SendsNoMore (sealed (direction ours.now) 0 []) (L.view link.old) (L.view link.new) }
     ensures refused { RefusesFor (IsProofFault (direction theirs.now)) (L.view link.old) (L.view link.new) result }
 {
     frame.set_record(ours, 0, &[]);
@@ -87,7 +93,7 @@ fn prove_both<L: Link>(
 /// Meets the peer that this hello is for, over a link whose key both have, and gives the keys of both directions, the own first.
 ///
 /// Refuses a peer of another version, of another dealing or with another number, and one that does not prove that it has the key
-/// and heard the same two hellos.
+/// and heard the same two hellos. Whatever comes of it, no more than the hello and the first record goes out.
 #[tactic(auto, using(crate::proofs::Refusing::of_hello))]
 pub fn meet<L: Link>(
     link: &mut L,
@@ -96,6 +102,7 @@ pub fn meet<L: Link>(
     key: &[u8; 32],
 ) -> Result<(Keys, Keys), SealFault>
     ensures meets { Meets mine.now key.now (L.view link.old) (L.view link.new) result }
+    ensures out { IsTrue (L.view link.new).told → SaysNoMore mine.now key.now (L.view link.old) (L.view link.new) }
     ensures refused { RefusesFor (IsMeetFault mine.now key.now) (L.view link.old) (L.view link.new) result }
 {
     let theirs = exchange_hellos(link, frame, mine)?;
