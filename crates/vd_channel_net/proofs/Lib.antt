@@ -1,2 +1,4 @@
+pub mod Front
 mod Happening
+mod Sealed
 mod Tried

@@ -1,4 +1,5 @@
 pub mod Ledgers
+pub mod Outgoing
 pub mod Seals
 pub mod Views
 pub mod Waits

@@ -1,5 +1,5 @@
 -- What a host seals its links by.
-use Rattle.std.specs.Prelude.{◌≡◌, ◌≤◌, ℕ, ◌+◌, ◌-◌, min, List, Option, Some, None, slice_get, if◌then◌else◌, nat_lt}
+use Rattle.std.specs.Prelude.{◌≡◌, ◌<◌, ◌≤◌, ℕ, ◌+◌, ◌-◌, min, List, Option, Some, None, slice_get, if◌then◌else◌, nat_lt}
 use Rattle.std.specs.Option.{unwrap_or}
 use Rattle.vd_base.specs.declared.ids.HostId.{HostId}
 use Rattle.vd_outside.specs.Link.{LinkView}
@@ -53,18 +53,24 @@ abbrev pub StillSeals : (before now : Option Seal) → Type 0
 StillSeals None now = now ≡ None
 StillSeals (Some seal) now = (later : Seal) × (now ≡ Some later) × Tries seal later
 
--- A session with a peer: both said hello in this dealing, the own one by a nonce of this run, and proved that they have the key of their
--- link; the session's keys are those that the two hellos make of it, and nothing went over it so far.
-pub record IsMet (seal : Seal) (peer : ℕ) (session : Session) : Type 0 where
+-- A session with a peer: both said hello in this dealing, the own one by the nonce of a connection of this run whose number was used by no
+-- earlier one, and proved that they have the key of their link; the session's keys are those that the two hellos make of it, and nothing
+-- went over it so far. So many connections were tried then; the link was this one when it came, and that one when it was given.
+pub record IsMet (seal : Seal) (tried peer : ℕ) (session : Session) (came given : LinkView) : Type 0 where
   pub mine : Hello
   pub id : mine.id ≡ seal.secrets.id
   pub from : mine.from ≡ seal.me
   pub to : mine.to.0 ≡ peer
   pub connection : ℕ
+  pub is_new : seal.tried ≤ connection
+  pub is_counted : connection < tried
   pub nonce : mine.nonce ≡ nonce_of seal.seed peer connection
   pub key : List ℕ
   pub is_key : IsKeyFor seal.me.0 seal.secrets peer key
-  pub before : LinkView
-  pub now : LinkView
-  pub met : HaveMet mine key before now (session.ours, session.theirs)
+  pub met : HaveMet mine key came given (session.ours, session.theirs)
   pub fresh : IsFresh session
+
+-- a net that sealed by one seal met a peer, and seals by the other now
+abbrev pub IsMetBy : (peer : Seal → ℕ) → (before now : Option Seal) → Session → (given : LinkView) → Type 0
+IsMetBy peer (Some seal) (Some later) session given = (came : LinkView) × IsMet seal later.tried (peer seal) session came given
+IsMetBy peer other now session given = ⊥

@@ -19,11 +19,11 @@ pub record ComesAfter (listener : ℕ) (start now : NetView) : Type 0 where
   pub came : LinkView
   pub accepts : Accepts listener net now (Ok came)
 
--- Why no link is given: the peer has no key, there is no memory, or the net below gives none. Never because a stranger came, but for so many that nobody lives
--- to see them.
-pub data GivesUp (listener : ℕ) (HasNoKey : Type 0) (start now : NetView) : CallFault → Type 0 where
-  NoKey : HasNoKey → now ≡ start → GivesUp listener HasNoKey start now call_fault.Failed
-  NoRoom : (count : ℕ) → Strangers listener start count now → GivesUp listener HasNoKey start now call_fault.Memory
+-- Why no link is given, where so many connections were tried before: the peer has no key, there is no memory, or the net below gives none.
+-- Never because a stranger came, but for so many that no number of a connection is left.
+pub data GivesUp (listener tried : ℕ) (HasNoKey : Type 0) (start now : NetView) : CallFault → Type 0 where
+  NoKey : HasNoKey → now ≡ start → GivesUp listener tried HasNoKey start now call_fault.Failed
+  NoRoom : (count : ℕ) → Strangers listener start count now → GivesUp listener tried HasNoKey start now call_fault.Memory
   NotGiven : (count : ℕ) (net : NetView) (fault : CallFault) → Strangers listener start count net → Accepts listener net now (Err fault)
-      → GivesUp listener HasNoKey start now fault
-  AllStrangers : Strangers listener start (2 ^ 64 - 1) now → GivesUp listener HasNoKey start now call_fault.Failed
+      → GivesUp listener tried HasNoKey start now fault
+  AllStrangers : (count : ℕ) → tried + count ≡ 2 ^ 32 - 1 → Strangers listener start count now → GivesUp listener tried HasNoKey start now call_fault.Failed

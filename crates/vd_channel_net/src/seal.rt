@@ -1,6 +1,6 @@
 //! What a host seals its links by.
 
-ghost use Rattle.std.specs.Prelude.{◌≡◌, ◌+◌, min, IfSome, IfNone};
+ghost use Rattle.std.specs.Prelude.{◌≡◌, ◌<◌, ◌+◌, IfSome, IfNone};
 ghost use Rattle.vd_channel_crypto.specs.Hellos.{nonce_of};
 ghost use Rattle.vd_channel_handshake.specs.Meeting.{head_of};
 ghost use Rattle.vd_channel_net.specs.Seals.{IsKeyFor, IsKeyless, Tries, awaited_at, first_of, next_asked, sealed_by};
@@ -95,17 +95,25 @@ impl Seal {
         Some(key)
     }
 
+    /// How many connections were tried.
+    pub(crate) fn tried(&self) -> u32
+        ensures { result ≡ self.now.tried }
+    {
+        self.tried
+    }
+
     /// The hello of the next connection, to this host.
     pub(crate) fn next_hello(&mut self, peer: HostId) -> Hello
+        requires { self.old.tried < u32.MAX }
         ensures id { result.id ≡ self.old.secrets.id }
         ensures from { result.from ≡ self.old.me }
         ensures to { result.to ≡ peer }
         ensures nonce { result.nonce ≡ nonce_of self.old.seed peer.0 self.old.tried }
-        ensures counted { self.new ≡ record self.old { tried = min (self.old.tried + 1) u32.MAX } }
+        ensures counted { self.new ≡ record self.old { tried = self.old.tried + 1 } }
         ensures tries { Tries self.old self.new }
     {
         let number = self.tried;
-        self.tried = number.saturating_add(1);
+        self.tried = number + 1;
         let seed = self.seed;
         Hello {
             id: self.secrets.id,

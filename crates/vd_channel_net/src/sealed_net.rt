@@ -1,14 +1,17 @@
 //! A net whose links are sealed.
 
-ghost use Rattle.std.specs.Prelude.{◌≡◌, ◌<◌, ◌≤◌, ⊤, None, Some, IfErr, IfOk, OnOk, OnErr, MatchOption};
+ghost use Rattle.std.specs.Prelude.{◌≡◌, ◌<◌, ◌≤◌, ◌+◌, ⊤, [], None, Some};
+ghost use Rattle.std.specs.Prelude.{IfErr, IfOk, IfSome, OnOk, OnErr, MatchOption};
 ghost use Rattle.std.specs.Option.{option_map};
 ghost use Rattle.std.specs.Result.{result_map_both};
 ghost use Rattle.vd_base.specs.declared.faults.CallFault.TheVariants as call_fault;
 ghost use Rattle.vd_outside.specs.Causes.{Rose};
 ghost use Rattle.vd_outside.specs.Link.{LinkView};
 ghost use Rattle.vd_outside.specs.Net.{Accepts, Connects, HangsUp, Listens};
+ghost use Rattle.vd_channel_net.specs.Outgoing.{SealsLinks, SealsSession, sealer_of};
 ghost use Rattle.vd_channel_net.specs.Ledgers.{has_begun, has_sent, nothing_given, with_given, with_returned};
-ghost use Rattle.vd_channel_net.specs.Seals.{IsKeyFor, IsKeyless, IsMet, StillSeals, Tries, awaited_at, listening, next_asked, sealed_by};
+ghost use Rattle.vd_channel_net.specs.Seals.{IsKeyFor, IsKeyless, IsMet, IsMetBy, StillSeals, Tries};
+ghost use Rattle.vd_channel_net.specs.Seals.{awaited_at, listening, next_asked, sealed_by};
 ghost use Rattle.vd_channel_net.specs.Views.{sealing};
 ghost use Rattle.vd_channel_net.specs.Waits.{ComesAfter, GivesUp};
 
@@ -109,11 +112,15 @@ fn meet_over<N: Net>(
     peer: HostId,
     key: &[u8; 32],
 ) -> Result<SealedLink<N::Link>, SealFault>
-    requires { IsKeyFor seal.old.me.0 seal.old.secrets peer.0 key.now }
+    requires key { IsKeyFor seal.old.me.0 seal.old.secrets peer.0 key.now }
+    requires number { seal.old.tried < u32.MAX }
     ensures given { (N.view net.new).given ≡ (N.view net.old).given }
     ensures kept { Tries seal.old seal.new }
+    ensures counted { seal.new.tried ≡ seal.old.tried + 1 }
     ensures fresh { IfOk result (λ link. link.session.faults ≡ 0) }
-    ensures met { IfOk result (λ link. IsMet seal.old peer.0 link.session) }
+    ensures met { IfOk result
+        (λ given. IsMet seal.old seal.new.tried peer.0 given.session (N.Link.view link) (N.Link.view given.link)) }
+    ensures over { (N.Link.view link).sent ≡ [] → SealsLinks (sealer_of seal.old) (N.view net.old) (N.view net.new) }
     ensures same { IfOk result (λ link. N.view net.new ≡ N.view net.old) }
     ensures hung_up { IfErr result (λ fault. (left : LinkView) × HangsUp left (N.view net.old) (N.view net.new)) }
 {
@@ -129,7 +136,8 @@ fn meet_over<N: Net>(
     }
 }
 
-/// The first host that comes to a listener and proves who it is. Why others were hung up is noted.
+/// The first host that comes to a listener and proves who it is. Why others were hung up is noted. Once all numbers of connections are used
+/// none is awaited any more.
 fn accept_sealed<N: Net>(
     alloc: Global,
     net: &mut N,
@@ -141,17 +149,20 @@ fn accept_sealed<N: Net>(
     ensures given { (N.view net.new).given ≡ (N.view net.old).given }
     ensures kept { Tries seal.old seal.new }
     ensures fresh { IfOk result (λ link. link.session.faults ≡ 0) }
-    ensures met { IfOk result (λ link. IsMet seal.old (awaited_at seal.old listener) link.session) }
+    ensures met { IfOk result (λ link. (came : LinkView) ×
+        IsMet seal.old seal.new.tried (awaited_at seal.old listener) link.session came (N.Link.view link.link)) }
+    ensures over { SealsLinks (sealer_of seal.old) (N.view net.old) (N.view net.new) }
+    ensures sealed { IfOk result (λ link. SealsSession (sealer_of seal.old) (N.view net.old) link.session (N.Link.view link.link)) }
     ensures comes { OnOk result (ComesAfter listener (N.view net.old) (N.view net.new)) }
     ensures gives_up { IfErr result
-        (GivesUp listener (IsKeyless seal.old (awaited_at seal.old listener)) (N.view net.old) (N.view net.new)) }
+        (GivesUp listener seal.old.tried (IsKeyless seal.old (awaited_at seal.old listener)) (N.view net.old) (N.view net.new)) }
 {
     let peer = seal.awaited_at(listener);
     let Some(key) = seal.key_of(peer) else {
         return Err(CallFault::Failed);
     };
     let head = seal.head_from(peer);
-    for _ in 0..u64::MAX {
+    for _ in seal.tried()..u32::MAX {
         let frame = Frame::new(alloc)?;
         let link = net.accept(listener, &head)?;
         match meet_over(net, seal, frame, link, peer, &key) {
@@ -162,7 +173,7 @@ fn accept_sealed<N: Net>(
     Err(CallFault::Failed)
 }
 
-/// A link to an earlier host, which proves who it is. Why it did not is noted.
+/// A link to an earlier host, which proves who it is. Why it did not is noted. Once all numbers of connections are used none is asked for.
 fn connect_sealed<N: Net>(
     alloc: Global,
     net: &mut N,
@@ -173,12 +184,18 @@ fn connect_sealed<N: Net>(
     ensures given { (N.view net.new).given ≡ (N.view net.old).given }
     ensures kept { Tries (next_asked seal.old) seal.new }
     ensures fresh { IfOk result (λ link. link.session.faults ≡ 0) }
-    ensures met { IfOk result (λ link. IsMet seal.old seal.old.connected link.session) }
+    ensures met { IfOk result (λ link. (came : LinkView) ×
+        IsMet seal.old seal.new.tried seal.old.connected link.session came (N.Link.view link.link)) }
+    ensures over { SealsLinks (sealer_of seal.old) (N.view net.old) (N.view net.new) }
+    ensures sealed { IfOk result (λ link. SealsSession (sealer_of seal.old) (N.view net.old) link.session (N.Link.view link.link)) }
 {
     let peer = seal.next_earlier();
     let Some(key) = seal.key_of(peer) else {
         return Err(CallFault::Failed);
     };
+    if seal.tried() == u32::MAX {
+        return Err(CallFault::Failed);
+    }
     let frame = Frame::new(alloc)?;
     let link = net.connect(address)?;
     match meet_over(net, seal, frame, link, peer, &key) {
@@ -210,6 +227,7 @@ impl<N: Net + Drop> Net for SealedNet<N> {
     fn wait_at_most(&mut self, seconds: Option<u32>)
         ensures same { sealing (N.view self.new.net) self.new.faults ≡ sealing (N.view self.old.net) self.old.faults }
         ensures limited { N.has_limit self.new.net seconds }
+        ensures below { N.view self.new.net ≡ N.view self.old.net }
         ensures seal { self.new.seal ≡ self.old.seal }
         ensures ledger { self.new.ledger ≡ self.old.ledger }
     {
@@ -221,6 +239,7 @@ impl<N: Net + Drop> Net for SealedNet<N> {
         ensures listens { Listens address.now
             (sealing (N.view self.old.net) self.old.faults)
             (sealing (N.view self.new.net) self.new.faults) result }
+        ensures below { Listens address.now (N.view self.old.net) (N.view self.new.net) result }
         ensures first { IfOk result (λ listener. self.new.seal ≡ option_map (listening listener) self.old.seal) }
         ensures none { OnErr result (self.new.seal ≡ self.old.seal) }
         ensures ledger { self.new.ledger ≡ self.old.ledger }
@@ -245,12 +264,15 @@ impl<N: Net + Drop> Net for SealedNet<N> {
             (sealing (N.view self.old.net) self.old.faults)
             (sealing (N.view self.new.net) self.new.faults)
             (result_map_both ⟦<SealedLink<N::Link> as Link>⟧.view (λ fault. fault) result) }
-        ensures met { MatchOption self.old.seal (OnOk result ⊥)
-            (λ seal. IfOk result (λ link. IsMet seal (awaited_at seal listener) link.session)) }
+        ensures met { IfOk result
+            (λ link. IsMetBy (λ seal. awaited_at seal listener) self.old.seal self.new.seal link.session (N.Link.view link.link)) }
+        ensures over { IfSome self.old.seal (λ seal. SealsLinks (sealer_of seal) (N.view self.old.net) (N.view self.new.net)) }
+        ensures sealed { IfSome self.old.seal (λ seal. IfOk result
+            (λ link. SealsSession (sealer_of seal) (N.view self.old.net) link.session (N.Link.view link.link))) }
         ensures kept { StillSeals self.old.seal self.new.seal }
         ensures comes { OnOk result (ComesAfter listener (N.view self.old.net) (N.view self.new.net)) }
         ensures gives_up { MatchOption self.old.seal ⊤ (λ seal. IfErr result
-            (GivesUp listener (IsKeyless seal (awaited_at seal listener)) (N.view self.old.net) (N.view self.new.net))) }
+            (GivesUp listener seal.tried (IsKeyless seal (awaited_at seal listener)) (N.view self.old.net) (N.view self.new.net))) }
         ensures ledger { OnOk result (self.new.ledger ≡ with_given self.old.ledger) }
         ensures none { OnErr result (self.new.ledger ≡ self.old.ledger) }
     {
@@ -275,8 +297,11 @@ impl<N: Net + Drop> Net for SealedNet<N> {
             (sealing (N.view self.old.net) self.old.faults)
             (sealing (N.view self.new.net) self.new.faults)
             (result_map_both ⟦<SealedLink<N::Link> as Link>⟧.view (λ fault. fault) result) }
-        ensures met { MatchOption self.old.seal (OnOk result ⊥)
-            (λ seal. IfOk result (λ link. IsMet seal seal.connected link.session)) }
+        ensures met { IfOk result
+            (λ link. IsMetBy (λ seal. seal.connected) self.old.seal self.new.seal link.session (N.Link.view link.link)) }
+        ensures over { IfSome self.old.seal (λ seal. SealsLinks (sealer_of seal) (N.view self.old.net) (N.view self.new.net)) }
+        ensures sealed { IfSome self.old.seal (λ seal. IfOk result
+            (λ link. SealsSession (sealer_of seal) (N.view self.old.net) link.session (N.Link.view link.link))) }
         ensures kept { StillSeals (option_map next_asked self.old.seal) self.new.seal }
         ensures ledger { OnOk result (self.new.ledger ≡ with_given self.old.ledger) }
         ensures none { OnErr result (self.new.ledger ≡ self.old.ledger) }
@@ -301,6 +326,7 @@ impl<N: Net + Drop> Net for SealedNet<N> {
         ensures hangs_up { HangsUp (⟦<SealedLink<N::Link> as Link>⟧.view link)
             (sealing (N.view self.old.net) self.old.faults)
             (sealing (N.view self.new.net) self.new.faults) }
+        ensures below { HangsUp (N.Link.view link.link) (N.view self.old.net) (N.view self.new.net) }
         ensures ledger { self.new.ledger ≡ with_returned (has_begun link.session) self.old.ledger }
         ensures seal { self.new.seal ≡ self.old.seal }
     {

@@ -1,4 +1,5 @@
-use Rattle.std.proofs.Common.{◌≡◌}
+use Rattle.std.proofs.Common.{◌≡◌, ◌+◌, ℕ}
+use Rattle.vd_channel_net.specs.Outgoing.{SealsLinks, sealer_of}
 use Rattle.vd_channel_net.specs.Seals.{Tries}
 use Rattle.vd_channel_net.specs.Waits.{Strangers}
 use Rattle.vd_channel_net.proofs.sealed_net.accept_sealed.Given as goal
@@ -7,5 +8,7 @@ abbrev pub invariant-loop : goal.invariant-loop
 invariant-loop g l = record {
   given : (g.N.Net.view l.net).given ≡ (g.N.Net.view l.fn.net).given;
   kept : Tries l.fn.seal l.seal;
-  strangers : Strangers l.listener (g.N.Net.view l.fn.net) l.counter (g.N.Net.view l.net);
+  tried : l.seal.tried ≡ l.counter;
+  over : SealsLinks (sealer_of l.fn.seal) (g.N.Net.view l.fn.net) (g.N.Net.view l.net);
+  strangers : (count : ℕ) × (l.fn.seal.tried + count ≡ l.counter) × Strangers l.listener (g.N.Net.view l.fn.net) count (g.N.Net.view l.net);
 }
