@@ -1,4 +1,5 @@
 mod Ends
 mod Greeted
+mod Honest
 mod Refusing
 mod Saying

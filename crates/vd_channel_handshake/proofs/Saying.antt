@@ -1,12 +1,12 @@
 -- No more goes out than an end says first.
-use Rattle.std.proofs.Common.{◌≡◌, ◌∙◌, ◌≤◌, ◌+◌, ℕ, zero, suc, Bool, IsTrue, List, [], ◌∷◌, ◌++◌, length, take, ap, sym, refl, subst, arith, append_assoc}
+use Rattle.std.proofs.Common.{◌≡◌, ◌∙◌, ◌+◌, ℕ, zero, suc, IsTrue, List, [], ◌∷◌, ◌++◌, length, take, ap, sym, refl, arith, append_assoc}
 use Rattle.std.proofs.Math.Seq.{take-append-add, take-length}
 use Rattle.std.proofs.lemmas.List.{length-take, take-append-le}
 use Rattle.vd_outside.specs.Link.{LinkView}
 use Rattle.vd_channel_crypto.specs.Hellos.{digest_between, hello_bytes, link_direction}
 use Rattle.vd_channel_crypto.specs.Records.{Direction, sealed}
 use Rattle.vd_channel_crypto.specs.declared.hellos.Hello.{Hello}
-use Rattle.vd_channel_handshake.specs.Meeting.{SaysNoMore, SendsNoMore, greeting}
+use Rattle.vd_channel_handshake.specs.Meeting.{SaysNoMore, SendsNoMore}
 
 front_again : (count : ℕ) (xs : List ℕ) → take (length (take count xs)) xs ≡ take count xs
 front_again zero xs = refl

@@ -4,5 +4,5 @@
 mod laws;
 mod meeting;
 
-pub use laws::ends_have_the_same_keys;
+pub use laws::{ends_have_the_same_keys, honest_ends_meet};
 pub use meeting::meet;

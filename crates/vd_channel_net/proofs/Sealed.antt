@@ -1,7 +1,7 @@
 -- What goes out over links that are sealed.
-use Rattle.std.proofs.Common.{◌≡◌, ◌∙◌, ◌≤◌, ℕ, zero, suc, Bool, true, false, IsTrue, List, [], ◌∷◌, ◌++◌, length, take, Option, Some, None, Result, Ok, Err, IfSome, IfOk, refl, sym, ap, ap₂, subst, arith, append_assoc, if◌then◌else◌, nat_lt, option_map}
+use Rattle.std.proofs.Common.{◌≡◌, ◌∙◌, ◌≤◌, ℕ, zero, suc, Bool, true, false, IsTrue, List, [], ◌∷◌, ◌++◌, length, take, Option, Some, None, Result, Ok, Err, IfSome, IfOk, refl, sym, ap, subst, arith, append_assoc, if◌then◌else◌, nat_lt, option_map}
 use Rattle.std.specs.List.{AllByRecursion}
-use Rattle.std.specs.Prelude.{OnErr, slice_get}
+use Rattle.std.specs.Prelude.{OnErr}
 use Rattle.std.specs.Str.{bytes_eq}
 use Rattle.std.proofs.Math.Seq.{take-length}
 use Rattle.std.proofs.lemmas.List.{append-nil, length-take, take-append-le}
@@ -18,7 +18,7 @@ use Rattle.vd_channel_link.specs.Session.{BeginsNone, FailsToSend, IsCarried, No
 use Rattle.vd_channel_link.specs.declared.session.Session.{Session}
 use Rattle.vd_channel_link.proofs.Front.{carried_on}
 use Rattle.vd_channel_handshake.specs.Meeting.{SaysNoMore}
-use Rattle.vd_channel_net.specs.Outgoing.{AreUnused, Greeted, HasSealed, IsLinkSealed, IsSealedOut, IsSealing, SealsAll, SealsLinks, SealsSession, Sealer, first_words, own_keys, sealer_of}
+use Rattle.vd_channel_net.specs.Outgoing.{AreUnused, Greeted, HasSealed, IsLinkSealed, IsSealing, SealsAll, SealsLinks, SealsSession, Sealer, first_words, sealer_of}
 use Rattle.vd_channel_net.specs.Seals.{IsKeyFor, IsMet, StillSeals, Tries, listening, next_asked}
 use Rattle.vd_channel_net.specs.declared.seal.Seal.{Seal}
 

@@ -1,6 +1,6 @@
-use Rattle.std.proofs.Common.{arith, ◌≡◌, ◌∙◌, ◌+◌, ℕ, refl}
+use Rattle.std.proofs.Common.{arith, ◌∙◌, ◌+◌, refl}
 use Rattle.std.proofs.lemmas.Result.{err_from_is_err_and}
-use Rattle.vd_channel_net.specs.Waits.{AllStrangers, NoKey, NoRoom, NoStranger, NotGiven, OneStranger, Strangers}
+use Rattle.vd_channel_net.specs.Waits.{AllStrangers, NoKey, NoRoom, NoStranger, NotGiven, OneStranger}
 use Rattle.vd_channel_net.proofs.Sealed.{accepts_unused, came_over, given_sealed, same_sealer, seals_accepts, seals_none, seals_then}
 use Rattle.vd_channel_net.proofs.Tried.{met_later, no_key, tries_more, tries_none}
 use Rattle.vd_channel_net.proofs.sealed_net.accept_sealed.Goals as goal
