@@ -1,6 +1,6 @@
 -- What a search comes to, whatever functions pick the outcomes.
 use Rattle.std.proofs.Common.{◌≡◌, ℕ, true, Option, Some, None, List, Ok, Err, refl, sym, ap, ◌∙◌, subst, pos}
-use Rattle.std.specs.Prelude.{IfSome, is_ok, nat_le, nat_lt, option_map}
+use Rattle.std.specs.Prelude.{◌&&◌, IfSome, IsTrue, is_ok, nat_le, nat_lt, option_map}
 use Rattle.std.proofs.lemmas.Bool.{and_from, le-leb, lt-ltb, cond-true}
 use Rattle.vd_core.specs.declared.normal.NormalForm.{NormalForm}
 use Rattle.vd_constraints.specs.Rules.{system_of}
@@ -18,6 +18,7 @@ use Rattle.vd_space.specs.Usual.{usual}
 use Rattle.vd_space_optimum.proofs.Front.{cheapest}
 use Rattle.vd_search_stages.specs.Choices.{ChoiceOutcomes, IsChosen, needed}
 use Rattle.vd_search_stages.specs.Confirming.{confirmed}
+use Rattle.vd_search_stages.specs.SoFar.{has_own_form}
 use Rattle.vd_search_stages.specs.Selecting.{IsAccepted, IsOver}
 use Rattle.vd_search_stages.specs.Optimum.{IsOptimum, assigned}
 use Rattle.vd_search_stages.specs.declared.optimum.Assignment.{Assignment}
@@ -39,9 +40,10 @@ reads_back : (certificates : CertificateOutcomes) (problem : Problem) (budget : 
 reads_back certificates problem budget c is = outcome_once (text_of c) (Ok c) (certificates.read (text_of c)) (record { is = is.has_text; text = refl }) (certificates.read_is (text_of c))
 
 -- so the search may answer it
-accepted : (certificates : CertificateOutcomes) (choices : ChoiceOutcomes) (problem : Problem) (budget : ℕ) (c : Certificate) → IsAccepted problem budget c → searched_by certificates choices (Certified (text_of c)) problem budget ≡ Ok (text_of c)
-accepted certificates choices problem budget c is =
-    let yes : is_accepted problem budget (Ok c) ≡ true = and_from (is_ok (confirmed problem c)) (nat_le (count_of is_expanded c.marks) budget) (ap is_ok is.accepted) (le-leb _ _ is.within) in
+accepted : (certificates : CertificateOutcomes) (choices : ChoiceOutcomes) (problem : Problem) (budget : ℕ) (c : Certificate) → IsAccepted problem budget c → IsTrue (has_own_form problem c) → searched_by certificates choices (Certified (text_of c)) problem budget ≡ Ok (text_of c)
+accepted certificates choices problem budget c is form =
+    let small : (is_ok (confirmed problem c) && nat_le (count_of is_expanded c.marks) budget) ≡ true = and_from (is_ok (confirmed problem c)) (nat_le (count_of is_expanded c.marks) budget) (ap is_ok is.accepted) (le-leb _ _ is.within) in
+    let yes : is_accepted problem budget (Ok c) ≡ true = and_from (is_ok (confirmed problem c) && nat_le (count_of is_expanded c.marks) budget) (has_own_form problem c) small form in
     cond-true (is_accepted problem budget (certificates.read (text_of c))) (Ok (text_of c)) (Err search_fault.Memory) (ap (is_accepted problem budget) (reads_back certificates problem budget c is) ∙ yes)
 
 -- what was found, where this is the certificate
@@ -53,14 +55,14 @@ module _ (program : NormalForm) (l : Labels) (budget : ℕ) where
   problem = problem_of program l
 
   -- a search that found a certificate goes on with the choice
-  searched : (c : Certificate) (choice : Option (List ℕ)) → IsAccepted problem budget c → IsChosen problem choice
+  searched : (c : Certificate) (choice : Option (List ℕ)) → IsAccepted problem budget c → IsTrue (has_own_form problem c) → IsChosen problem choice
       → Searches program l budget (Ok (given program l (option_map (assigned problem) choice) c))
-  searched c choice is chosen = (
+  searched c choice is form chosen = (
     Certified (text_of c),
     λ certificates choices files rest last result runs.
         let same : choices.choose problem ≡ choice = chosen_once problem (choices.choose problem) choice (choices.choose_is problem) chosen in
         check_step (as_searched budget (labelled_form program l) (searched_by certificates choices (Certified (text_of c)) problem budget)) files (Ok (text_of c))
-        (record { ok = ap (as_searched budget (labelled_form program l)) (accepted certificates choices problem budget c is); err = tt })
+        (record { ok = ap (as_searched budget (labelled_form program l)) (accepted certificates choices problem budget c is form); err = tt })
         (λ bytes. rest (chosen_by choices program l bytes)) last result
         (subst (λ (o : Option (List ℕ)). Executes true (rest (chosen_of (given program l (option_map (assigned problem) o) c))) files last result) (sym same) runs),
   )
@@ -70,7 +72,7 @@ module _ (program : NormalForm) (l : Labels) (budget : ℕ) where
 
   -- and so with what it found
   pub found_by : (optimum : Optimum) → IsOptimum problem budget optimum → Searches program l budget (Ok (given program l optimum.assignment optimum.certificate))
-  found_by optimum is = subst (λ (o : Option Assignment). Searches program l budget (Ok (given program l o optimum.certificate))) (sym is.assignment) (searched optimum.certificate is.choice is.accepted is.chosen)
+  found_by optimum is = subst (λ (o : Option Assignment). Searches program l budget (Ok (given program l o optimum.certificate))) (sym is.assignment) (searched optimum.certificate is.choice is.accepted is.form is.chosen)
 
   -- it is the choice for the program
   module _ (holds : IsProblem problem) (least : IsLeast (system_of program) l) where

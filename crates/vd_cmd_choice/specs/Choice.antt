@@ -46,7 +46,8 @@ pub record Chosen : Type 0 where
   pub certificate : List ℕ
 
 abbrev pub chosen_by : ChoiceOutcomes → NormalForm → Labels → List ℕ → Chosen
-chosen_by choices program l bytes = record { program = program; labels = l; assignment = assignment_of choices (problem_of program l); certificate = bytes }
+chosen_by choices program l bytes =
+    record { program = program; labels = l; assignment = assignment_of choices (problem_of program l); certificate = bytes }
 
 -- what a search with this budget for a program came to: where the budget is spent, the status carries the program with its labels
 abbrev pub as_searched : (budget : ℕ) → LabelledForm → Result (List ℕ) SearchFault → Result (List ℕ) Status
@@ -56,19 +57,25 @@ as_searched budget form (Err search_fault.Memory) = Err Memory
 
 -- search with a budget under these labels of a program, and go on with what is found
 abbrev pub search_then : ChoiceOutcomes → Search → (budget : ℕ) → NormalForm → Labels → (Chosen → Contents → Plan) → Contents → Plan
-search_then choices search budget program l rest = check_then (as_searched budget (labelled_form program l) (search (problem_of program l) budget)) (λ bytes. rest (chosen_by choices program l bytes))
+search_then choices search budget program l rest =
+    check_then (as_searched budget (labelled_form program l) (search (problem_of program l) budget))
+    (λ bytes. rest (chosen_by choices program l bytes))
 
 -- the step: the same under its least labels
-abbrev pub choice_of_then : LabelOutcomes → ChoiceOutcomes → Search → (budget : ℕ) → NormalForm → (Chosen → Contents → Plan) → Contents → Plan
-choice_of_then least choices search budget program rest = check_then (labels_of least program) (λ l. search_then choices search budget program l rest)
+abbrev pub choice_of_then : LabelOutcomes → ChoiceOutcomes → Search → (budget : ℕ) → NormalForm → (Chosen → Contents → Plan) → Contents
+    → Plan
+choice_of_then least choices search budget program rest =
+    check_then (labels_of least program) (λ l. search_then choices search budget program l rest)
 
 -- for the program that is run for the source with this text, which goes by this name
-abbrev pub text_choice_then : TextOutcomes → LabelOutcomes → ChoiceOutcomes → Search → (name : List ℕ) → (budget : ℕ) → (text : List ℕ) → (Chosen → Contents → Plan) → Contents → Plan
+abbrev pub text_choice_then : TextOutcomes → LabelOutcomes → ChoiceOutcomes → Search → (name : List ℕ) → (budget : ℕ) → (text : List ℕ)
+    → (Chosen → Contents → Plan) → Contents → Plan
 text_choice_then texts least choices search name budget text rest =
     text_program_then texts least name text (λ program. choice_of_then least choices search budget program rest)
 
 -- and for the source in a file, whose text is kept
-abbrev pub source_choice_then : TextOutcomes → LabelOutcomes → ChoiceOutcomes → Search → (name : List ℕ) → (budget : ℕ) → (List ℕ → Chosen → Contents → Plan) → Contents → Plan
+abbrev pub source_choice_then : TextOutcomes → LabelOutcomes → ChoiceOutcomes → Search → (name : List ℕ) → (budget : ℕ)
+    → (List ℕ → Chosen → Contents → Plan) → Contents → Plan
 source_choice_then texts least choices search name budget rest =
     file_then name most_source_bytes (λ text. text_choice_then texts least choices search name budget text (rest text))
 
@@ -86,7 +93,8 @@ assigned_answer form answer (Some a) = answer a
 -- ---- what its parts do, whatever functions pick outcomes
 
 abbrev pub chosen_of : Choice → Chosen
-chosen_of choice = record { program = choice.program; labels = choice.labels; assignment = choice.assignment; certificate = text_of choice.certificate }
+chosen_of choice =
+    record { program = choice.program; labels = choice.labels; assignment = choice.assignment; certificate = text_of choice.certificate }
 
 abbrev pub chosen_in : Result Choice Status → Result Chosen Status
 chosen_in (Ok choice) = Ok (chosen_of choice)
@@ -94,11 +102,14 @@ chosen_in (Err status) = Err status
 
 abbrev pub Searches : NormalForm → Labels → (budget : ℕ) → Result Choice Status → Type 0
 Searches program l budget result =
-    SomeSearch (λ choices search. (files : FilesView) → ExecutesStep (search_then choices search budget program l) files files (chosen_in result))
+    SomeSearch
+    (λ choices search. (files : FilesView) → ExecutesStep (search_then choices search budget program l) files files (chosen_in result))
 
 abbrev pub Chooses : NormalForm → (budget : ℕ) → Result Choice Status → Type 0
 Chooses program budget result =
-    SomeSearch (λ choices search. (least : LabelOutcomes) (files : FilesView) → ExecutesStep (choice_of_then least choices search budget program) files files (chosen_in result))
+    SomeSearch
+    (λ choices search. (least : LabelOutcomes) (files : FilesView)
+    → ExecutesStep (choice_of_then least choices search budget program) files files (chosen_in result))
 
 -- ---- what they find
 

@@ -25,19 +25,23 @@ program_then texts least name rest = file_then name most_source_bytes (λ text. 
 -- and with its text kept
 abbrev pub source_program_then : TextOutcomes → LabelOutcomes → (name : List ℕ) → (SourceProgram → Contents → Plan) → Contents → Plan
 source_program_then texts least name rest =
-    file_then name most_source_bytes (λ text. text_program_then texts least name text (λ program. rest (record { text = text; program = program })))
+    file_then name most_source_bytes
+    (λ text. text_program_then texts least name text (λ program. rest (record { text = text; program = program })))
 
 -- ---- what its parts do, whatever functions pick outcomes
 
 abbrev pub ReadsProgram : (text : List ℕ) → Result NormalForm Status → Type 0
 ReadsProgram text result =
-    (texts : TextOutcomes) (least : LabelOutcomes) (name : List ℕ) (files : FilesView) → ExecutesStep (text_program_then texts least name text) files files result
+    (texts : TextOutcomes) (least : LabelOutcomes) (name : List ℕ) (files : FilesView)
+    → ExecutesStep (text_program_then texts least name text) files files result
 
 abbrev pub LoadsProgram : (name : List ℕ) → FilesView → FilesView → Result NormalForm Status → Type 0
-LoadsProgram name before now result = (texts : TextOutcomes) (least : LabelOutcomes) → ExecutesStep (program_then texts least name) before now result
+LoadsProgram name before now result =
+    (texts : TextOutcomes) (least : LabelOutcomes) → ExecutesStep (program_then texts least name) before now result
 
 abbrev pub LoadsSourceProgram : (name : List ℕ) → FilesView → FilesView → Result SourceProgram Status → Type 0
-LoadsSourceProgram name before now result = (texts : TextOutcomes) (least : LabelOutcomes) → ExecutesStep (source_program_then texts least name) before now result
+LoadsSourceProgram name before now result =
+    (texts : TextOutcomes) (least : LabelOutcomes) → ExecutesStep (source_program_then texts least name) before now result
 
 -- ---- what it gives
 

@@ -1,6 +1,6 @@
 -- What `choose` prints, and what `certify` says of the certificate that it stores.
 use Rattle.std.proofs.Common.{◌≡◌, ◌≢◌, ℕ, ◌+◌, ◌≤◌, Bool, true, false, true≢false, if◌then◌else◌, Option, Some, None, List, [], ◌++◌, length, Result, Ok, Err, refl, sym, ap, ◌∙◌, subst, arith, ℤ, pos, negsuc, ◌≤ℤ◌, length-append}
-use Rattle.std.specs.Prelude.{codes, is_ok, nat_le, nat_lt, option_map}
+use Rattle.std.specs.Prelude.{◌&&◌, codes, is_ok, nat_le, nat_lt, option_map}
 use Rattle.std.specs.Str.{bytes_eq}
 use Rattle.std.proofs.lemmas.Bool.{and_parts, cond-false, cond-true, false_from_ne_true, leb-true}
 use Rattle.std.proofs.lemmas.Bool.Decides.{nat_tests}
@@ -29,6 +29,7 @@ use Rattle.vd_space_optimum.proofs.Front.{cheapest}
 use Rattle.vd_search.specs.Answers.{nat_or_zero}
 use Rattle.vd_search_stages.specs.Choices.{ChoiceOutcomes, IsChosen, needed}
 use Rattle.vd_search_stages.specs.Confirming.{confirmed}
+use Rattle.vd_search_stages.specs.SoFar.{has_own_form}
 use Rattle.vd_search_stages.specs.Optimum.{assigned, assignment_of}
 use Rattle.vd_search_stages.proofs.Front.{optimal_at}
 use Rattle.vd_search.specs.declared.writing.SearchFault.{SearchFault}
@@ -103,7 +104,8 @@ record IsAnswer (problem : Problem) (budget : ℕ) (bytes : List ℕ) : Type 0 w
 
 is_answer : (problem : Problem) (budget : ℕ) (bytes : List ℕ) (said : Result Certificate ℕ) → HasOutcome bytes said → is_accepted problem budget said ≡ true → IsAnswer problem budget bytes
 is_answer problem budget bytes (Ok c) has test =
-    let parts = and_parts (is_ok (confirmed problem c)) (nat_le (count_of is_expanded c.marks) budget) test in
+    let whole = and_parts (is_ok (confirmed problem c) && nat_le (count_of is_expanded c.marks) budget) (has_own_form problem c) test in
+    let parts = and_parts (is_ok (confirmed problem c)) (nat_le (count_of is_expanded c.marks) budget) whole.0 in
     let proved = was_ok (confirmed problem c) parts.0 in
     record { c = c; text = has; proved = proved.0; accepted = proved.1; few = leb-true (count_of is_expanded c.marks) budget parts.1 }
 is_answer problem budget bytes (Err offset) has test = absurd (true≢false (sym test))

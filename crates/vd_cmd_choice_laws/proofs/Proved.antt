@@ -15,10 +15,12 @@ use Rattle.vd_cost_network.proofs.Front.{network_high_whole, network_tree_bounde
 use Rattle.vd_search_tree.specs.Trees.{IsWhole, Tree}
 use Rattle.vd_search_tree.specs.declared.shift.Shift.{Shift}
 use Rattle.vd_search_stages.specs.Confirming.{confirmed, names_by, tree_by}
+use Rattle.vd_search_stages.specs.SoFar.{so_far_tree}
+use Rattle.vd_search_stages.proofs.Front.{so_far_bounded, whole_same}
 use Rattle.vd_space.specs.declared.problem.Problem.{Problem}
 use Rattle.vd_space.specs.Costs.{cost}
-use Rattle.vd_space.specs.Spaces.{IsProblem, tree_of}
-use Rattle.vd_space.proofs.Front.{high_whole, tree_bounded}
+use Rattle.vd_space.specs.Spaces.{IsProblem}
+use Rattle.vd_space.proofs.Front.{high_whole}
 
 -- its shifts name what there is, and its marks are accepted
 pub unshifted : (uses : ℕ) (tree : Tree) (c : Certificate) (proved : Proved) → certificate_checked uses tree c ≡ Ok proved → checked tree c.cost c.marks ≡ Ok proved
@@ -40,10 +42,10 @@ record IsTreeFor (problem : Problem) (tree : Tree) : Type 0 where
   costs : (list : List ℕ) → IsValid problem list → tree.bound list ≡ cost problem list
 
 module _ (problem : Problem) (holds : IsProblem problem) where
-  by_uses : (shifts : List Shift) → IsTreeFor problem (tree_of problem shifts)
+  by_uses : (shifts : List Shift) → IsTreeFor problem (so_far_tree problem shifts)
   by_uses shifts = record {
-    whole = λ list v. record { full = v.whole; valid = v.valid };
-    valid = λ list w. record { whole = w.full; valid = w.valid };
+    whole = λ list v. record { full = v.whole; valid = whole_same problem list v.whole ∙ v.valid };
+    valid = λ list w. record { whole = w.full; valid = sym (whole_same problem list w.full) ∙ w.valid };
     costs = λ list v. high_whole problem holds shifts list v.whole v.valid;
   }
 
@@ -64,8 +66,8 @@ module _ (problem : Problem) (holds : IsProblem problem) where
   pub confirmed_shows : (c : Certificate) (proved : Proved) → confirmed problem c ≡ Ok proved → Shown problem proved
   confirmed_shows c proved is = by c.by_arcs (unshifted (names_by problem c) (tree_by problem c) c proved is)
     where
-      by : (by_arcs : Bool) → checked (if by_arcs then network_tree problem c.shifts else tree_of problem c.shifts) c.cost c.marks ≡ Ok proved → Shown problem proved
+      by : (by_arcs : Bool) → checked (if by_arcs then network_tree problem c.shifts else so_far_tree problem c.shifts) c.cost c.marks ≡ Ok proved → Shown problem proved
       by true accepted =
           shown_by (network_tree problem c.shifts) proved (with_arcs c.shifts) (checked_proves (network_tree problem c.shifts) (network_tree_bounded problem holds c.shifts) c.marks proved c.cost accepted)
       by false accepted =
-          shown_by (tree_of problem c.shifts) proved (by_uses c.shifts) (checked_proves (tree_of problem c.shifts) (tree_bounded problem holds c.shifts) c.marks proved c.cost accepted)
+          shown_by (so_far_tree problem c.shifts) proved (by_uses c.shifts) (checked_proves (so_far_tree problem c.shifts) (so_far_bounded problem holds c.shifts) c.marks proved c.cost accepted)

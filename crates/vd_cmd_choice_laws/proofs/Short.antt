@@ -20,8 +20,8 @@ use Rattle.vd_cost_network.specs.Network.{network_tree}
 use Rattle.vd_search_tree.specs.Trees.{Tree}
 use Rattle.vd_search_tree.specs.declared.shift.Shift.{Shift}
 use Rattle.vd_search_stages.specs.Confirming.{confirmed, names_by, tree_by}
+use Rattle.vd_search_stages.specs.SoFar.{so_far_tree}
 use Rattle.vd_space.specs.declared.problem.Problem.{Problem}
-use Rattle.vd_space.specs.Spaces.{tree_of}
 use Rattle.vd_space.specs.Validity.{protocols}
 use Rattle.vd_cmd_choice_laws.proofs.Proved.{unshifted}
 
@@ -82,9 +82,9 @@ pub marks_few : (problem : Problem) (c : Certificate) (proved : Proved) (budget 
     → length c.marks ≤ 8400001
 marks_few problem c proved budget few is opened low = by c.by_arcs (unshifted (names_by problem c) (tree_by problem c) c proved is)
   where
-    by : (by_arcs : Bool) → checked (if by_arcs then network_tree problem c.shifts else tree_of problem c.shifts) c.cost c.marks ≡ Ok proved → length c.marks ≤ 8400001
+    by : (by_arcs : Bool) → checked (if by_arcs then network_tree problem c.shifts else so_far_tree problem c.shifts) c.cost c.marks ≡ Ok proved → length c.marks ≤ 8400001
     by true accepted = marks_few_in (network_tree problem c.shifts) c.cost c.marks proved budget few accepted opened low
-    by false accepted = marks_few_in (tree_of problem c.shifts) c.cost c.marks proved budget few accepted opened low
+    by false accepted = marks_few_in (so_far_tree problem c.shifts) c.cost c.marks proved budget few accepted opened low
 
 -- ---- text
 
@@ -128,7 +128,8 @@ listed_short shifts all few =
     (both_short (codes "shifts " ++ decimal (length shifts)) (codes "\n") 17 1 count (lit≤ tt)) lines
 
 claim_short : (cost : Option ℕ) (by_arcs : Bool) (shifts : List Shift) → CostFits cost → AllByRecursion IsShift shifts → length shifts ≤ 131072 → length (claim_text cost by_arcs shifts) ≤ 6100000
-claim_short None by_arcs shifts fits all few = lit≤ tt
+claim_short None true shifts fits all few = lit≤ tt
+claim_short None false shifts fits all few = lit≤ tt
 claim_short (Some number) by_arcs [] fits all few =
     let text = both_short (codes "viaduct-cert 1\n") (cost_text number) 15 16 (lit≤ tt) (cost_short number fits) in
     omega (arith, text)

@@ -9,8 +9,8 @@ use Rattle.vd_search_tree.specs.declared.shift.Shift.{Shift}
 use Rattle.vd_search_certificate.specs.declared.certificate.Certificate.{Certificate}
 use Rattle.vd_search_certificate.specs.declared.certificate.Mark.{Mark}
 use Rattle.vd_search_certificate.specs.declared.certificate.Mark.TheVariants.{Expanded, Violated, Bounded, Best}
-use Rattle.vd_search_certificate.specs.Texts.{newline, blank, letter, sign, marks_text, shift_text, cost_text, shifts_text, heading, text_of, most_number, IsShift, CostFits, IsTextOf}
-use Rattle.vd_search_certificate.specs.Scan.{Scanner, number, after_number, choice, choice_of_three, make_shift, scan_amount, scan_sign, scan_shift, scan_shifts, mark_of, certificate, at_end, scan_marks, scan_cost, scan_empty, scan_least, scan_first, scan_counted, scan_listed, scan_further, scan}
+use Rattle.vd_search_certificate.specs.Texts.{newline, blank, letter, sign, marks_text, shift_text, cost_text, shifts_text, empty_text, heading, text_of, most_number, IsShift, CostFits, IsTextOf}
+use Rattle.vd_search_certificate.specs.Scan.{Scanner, number, after_number, choice, choice_of_three, make_shift, scan_amount, scan_sign, scan_shift, scan_shifts, mark_of, certificate, at_end, scan_marks, scan_cost, scan_empty, scan_least, scan_first, scan_counted, scan_listed, scan_second, scan_arcs, scan_third, scan}
 use Rattle.vd_search_certificate.proofs.Three.{OneOfThree, scans_one_of_three}
 use Rattle.vd_search_certificate.proofs.Scans.{Texts, Scans, scans_same, BehindWord, scans_word, BehindNumber, scans_number, BehindByte, EitherByte, scans_either}
 
@@ -295,14 +295,14 @@ module _ (next : List Shift → Scanner) (texts : List Shift → Texts) (s : (li
 
 -- ---- the whole
 
-abbrev Empty : Texts
-Empty = BehindWord (codes "mpty\n") (MarksLeft None false [] [])
+abbrev Empty : Bool → Texts
+Empty by_arcs = BehindWord (codes "mpty\n") (MarksLeft None by_arcs [] [])
 
 abbrev Least : Texts
 Least = BehindWord (codes "ost ") (BehindNumber 0 most_number newline (λ cost. MarksLeft (Some cost) false [] []))
 
 abbrev First : Texts
-First = BehindWord (newline ∷ []) (EitherByte 99 Least 101 Empty)
+First = BehindWord (newline ∷ []) (EitherByte 99 Least 101 (Empty false))
 
 abbrev Counted : Bool → ℕ → ℕ → Texts
 Counted by_arcs cost count = BehindShifts (λ shifts. MarksLeft (Some cost) by_arcs shifts []) count []
@@ -310,34 +310,54 @@ Counted by_arcs cost count = BehindShifts (λ shifts. MarksLeft (Some cost) by_a
 abbrev Listed : Bool → ℕ → Texts
 Listed by_arcs cost = BehindWord (codes "shifts ") (BehindNumber 1 most_certificate_shifts newline (Counted by_arcs cost))
 
-abbrev Further : Bool → Texts
-Further by_arcs = BehindWord (codes "\ncost ") (BehindNumber 0 most_number newline (Listed by_arcs))
+abbrev Costed : Bool → Texts
+Costed by_arcs = BehindNumber 0 most_number newline (Listed by_arcs)
+
+abbrev Second : Texts
+Second = BehindWord (codes "\ncost ") (Costed false)
+
+abbrev Arcs : Texts
+Arcs = BehindWord (codes "ost ") (Costed true)
+
+abbrev Third : Texts
+Third = BehindWord (newline ∷ []) (EitherByte 99 Arcs 101 (Empty true))
 
 abbrev Forms : Texts
-Forms = OneOfThree 49 First 50 (Further false) 51 (Further true)
+Forms = OneOfThree 49 First 50 Second 51 Third
 
 abbrev Whole : Texts
 Whole = BehindWord (codes "viaduct-cert ") Forms
 
+scans_empty : (by_arcs : Bool) → Scans (scan_empty by_arcs) (Empty by_arcs)
+scans_empty by_arcs = scans_word (codes "mpty\n") (scan_marks None by_arcs [] []) (MarksLeft None by_arcs [] []) (scans_marks None by_arcs [])
+
 scans_first : Scans scan_first First
 scans_first =
-    scans_word (newline ∷ []) (choice 99 scan_least 101 scan_empty) (EitherByte 99 Least 101 Empty) (scans_either 99 scan_least Least 101 scan_empty Empty refl
+    scans_word (newline ∷ []) (choice 99 scan_least 101 (scan_empty false)) (EitherByte 99 Least 101 (Empty false)) (scans_either 99 scan_least Least 101 (scan_empty false) (Empty false) refl
     (scans_word (codes "ost ") (scan_cost (λ cost. scan_marks (Some cost) false [] [])) (BehindNumber 0 most_number newline (λ cost. MarksLeft (Some cost) false [] []))
     (scans_number 0 most_number newline (omega arith) (omega arith) (omega arith) refl (λ cost. scan_marks (Some cost) false [] []) (λ cost. MarksLeft (Some cost) false [] []) (λ cost low high. scans_marks (Some cost) false [])))
-    (scans_word (codes "mpty\n") (scan_marks None false [] []) (MarksLeft None false [] []) (scans_marks None false [])))
+    (scans_empty false))
 
-scans_further : (by_arcs : Bool) → Scans (scan_further by_arcs) (Further by_arcs)
-scans_further by_arcs =
-    scans_word (codes "\ncost ") (scan_cost (scan_listed by_arcs)) (BehindNumber 0 most_number newline (Listed by_arcs))
-    (scans_number 0 most_number newline (omega arith) (omega arith) (omega arith) refl (scan_listed by_arcs) (Listed by_arcs) (λ cost low high.
+scans_costed : (by_arcs : Bool) → Scans (scan_cost (scan_listed by_arcs)) (Costed by_arcs)
+scans_costed by_arcs =
+    scans_number 0 most_number newline (omega arith) (omega arith) (omega arith) refl (scan_listed by_arcs) (Listed by_arcs) (λ cost low high.
     scans_word (codes "shifts ") (λ rest. after_number (number 1 most_certificate_shifts newline rest) (scan_counted by_arcs cost)) (BehindNumber 1 most_certificate_shifts newline (Counted by_arcs cost))
     (scans_number 1 most_certificate_shifts newline (omega arith) (omega arith) (omega arith) refl (scan_counted by_arcs cost) (Counted by_arcs cost) (λ count low_ high_.
-    scans_shifts (λ shifts. scan_marks (Some cost) by_arcs shifts []) (λ shifts. MarksLeft (Some cost) by_arcs shifts []) (scans_marks (Some cost) by_arcs) count []))))
+    scans_shifts (λ shifts. scan_marks (Some cost) by_arcs shifts []) (λ shifts. MarksLeft (Some cost) by_arcs shifts []) (scans_marks (Some cost) by_arcs) count [])))
+
+scans_second : Scans scan_second Second
+scans_second = scans_word (codes "\ncost ") (scan_cost (scan_listed false)) (Costed false) (scans_costed false)
+
+scans_third : Scans scan_third Third
+scans_third =
+    scans_word (newline ∷ []) (choice 99 scan_arcs 101 (scan_empty true)) (EitherByte 99 Arcs 101 (Empty true)) (scans_either 99 scan_arcs Arcs 101 (scan_empty true) (Empty true) refl
+    (scans_word (codes "ost ") (scan_cost (scan_listed true)) (Costed true) (scans_costed true))
+    (scans_empty true))
 
 scans_parts : Scans scan Whole
 scans_parts =
-    scans_word (codes "viaduct-cert ") (choice_of_three 49 scan_first 50 (scan_further false) 51 (scan_further true)) Forms
-    (scans_one_of_three 49 scan_first First 50 (scan_further false) (Further false) 51 (scan_further true) (Further true) refl refl refl scans_first (scans_further false) (scans_further true))
+    scans_word (codes "viaduct-cert ") (choice_of_three 49 scan_first 50 scan_second 51 scan_third) Forms
+    (scans_one_of_three 49 scan_first First 50 scan_second Second 51 scan_third Third refl refl refl scans_first scans_second scans_third)
 
 -- ---- the text of a certificate
 
@@ -352,8 +372,11 @@ abbrev form_number : Bool → ℕ
 form_number by_arcs = if by_arcs then 51 else 50
 
 -- what stands behind the number of a further form
+abbrev costed_text : ℕ → ℕ → List ℕ → List ℕ
+costed_text cost count rest = decimal cost ++ (newline ∷ (codes "shifts " ++ (decimal count ++ (newline ∷ rest))))
+
 abbrev further_text : ℕ → ℕ → List ℕ → List ℕ
-further_text cost count rest = codes "\ncost " ++ (decimal cost ++ (newline ∷ (codes "shifts " ++ (decimal count ++ (newline ∷ rest)))))
+further_text cost count rest = codes "\ncost " ++ costed_text cost count rest
 
 heading_is : (by_arcs : Bool) (rest : List ℕ) → heading by_arcs ++ rest ≡ codes "viaduct-cert " ++ (form_number by_arcs ∷ (newline ∷ rest))
 heading_is true rest = refl
@@ -378,15 +401,18 @@ module _ (marks : List Mark) where
 some_none : (cost : ℕ) → ◌≡◌ {A = Option ℕ} (Some cost) None → ⊥
 some_none cost is = cc
 
-of_empty : (c : Certificate) (bytes : List ℕ) → MarksLeft None false [] [] c bytes → IsTextOf c (codes "viaduct-cert 1\nempty\n" ++ bytes)
-of_empty c bytes h = subst (λ d. IsTextOf d (codes "viaduct-cert 1\nempty\n" ++ bytes)) (sym h.whole) (record {
-  is = record { cost = tt; few = omega arith; shifts = tt; none = λ e. refl; some = λ e. absurd (true≢false (sym e)) };
-  text = ap (λ x. codes "viaduct-cert 1\nempty\n" ++ x) h.text;
+none_some : (cost : ℕ) → ◌≡◌ {A = Option ℕ} None (Some cost) → ⊥
+none_some cost is = cc
+
+of_empty : (by_arcs : Bool) (c : Certificate) (bytes : List ℕ) → MarksLeft None by_arcs [] [] c bytes → IsTextOf c (empty_text by_arcs ++ bytes)
+of_empty by_arcs c bytes h = subst (λ d. IsTextOf d (empty_text by_arcs ++ bytes)) (sym h.whole) (record {
+  is = record { cost = tt; few = omega arith; shifts = tt; none = λ e. refl; some = λ e cost is. absurd (none_some cost is) };
+  text = ap (λ x. empty_text by_arcs ++ x) h.text;
 })
 
 of_least : (c : Certificate) (cost : ℕ) (bytes : List ℕ) → cost ≤ most_number → MarksLeft (Some cost) false [] [] c bytes → IsTextOf c (codes "viaduct-cert 1\ncost " ++ (decimal cost ++ (newline ∷ bytes)))
 of_least c cost bytes fits h = subst (λ d. IsTextOf d (codes "viaduct-cert 1\ncost " ++ (decimal cost ++ (newline ∷ bytes)))) (sym h.whole) (record {
-  is = record { cost = fits; few = omega arith; shifts = tt; none = λ e. refl; some = λ e. absurd (true≢false (sym e)) };
+  is = record { cost = fits; few = omega arith; shifts = tt; none = λ e. refl; some = λ e number is. absurd (true≢false (sym e)) };
   text = ap (λ x. codes "viaduct-cert 1\ncost " ++ (decimal cost ++ (newline ∷ x))) h.text ∙ sym (least_text h.more cost);
 })
 
@@ -399,7 +425,7 @@ of_listed by_arcs c cost count bytes fits some few h = by h.list h.count h.all h
     by [] is all text marks = absurd (omega arith)
     by (shift ∷ list) is all text marks =
         subst (λ d. IsTextOf d (codes "viaduct-cert " ++ (form_number by_arcs ∷ further_text cost count bytes))) (sym marks.whole) (record {
-          is = record { cost = fits; few = omega arith; shifts = all; none = λ e. absurd (some_none cost e); some = λ e. omega arith };
+          is = record { cost = fits; few = omega arith; shifts = all; none = λ e. absurd (some_none cost e); some = λ e number is. omega arith };
           text =
               (λ i. codes "viaduct-cert " ++ (form_number by_arcs ∷ further_text cost (sym is i) (text i)))
               ∙ ap (λ x. codes "viaduct-cert " ++ (form_number by_arcs ∷ further_text cost (length (shift ∷ list)) (flat_map shift_text (shift ∷ list) ++ x))) marks.text
@@ -409,70 +435,90 @@ of_listed by_arcs c cost count bytes fits some few h = by h.list h.count h.all h
 whole_text : (c : Certificate) (bytes : List ℕ) → Whole c bytes → IsTextOf c bytes
 whole_text c bytes h = by h.holds
   where
-    first : (f : BehindByte 49 First c h.rest) → EitherByte 99 Least 101 Empty c f.holds.rest → IsTextOf c bytes
+    first : (f : BehindByte 49 First c h.rest) → EitherByte 99 Least 101 (Empty false) c f.holds.rest → IsTextOf c bytes
     first f (inl l) =
         let number_ = l.holds.holds in
         subst (IsTextOf c) (sym (h.text ∙ ap (λ x. codes "viaduct-cert " ++ x) (f.text ∙ ap (λ x. 49 ∷ x) (f.holds.text ∙ ap (λ x. newline ∷ x) (l.text ∙ ap (λ x. 99 ∷ x) (l.holds.text ∙ ap (λ x. codes "ost " ++ x) number_.text))))))
         (of_least c number_.n number_.rest number_.to_most number_.holds)
     first f (inr e) =
         subst (IsTextOf c) (sym (h.text ∙ ap (λ x. codes "viaduct-cert " ++ x) (f.text ∙ ap (λ x. 49 ∷ x) (f.holds.text ∙ ap (λ x. newline ∷ x) (e.text ∙ ap (λ x. 101 ∷ x) e.holds.text)))))
-        (of_empty c e.holds.rest e.holds.holds)
+        (of_empty false c e.holds.rest e.holds.holds)
 
-    further : (by_arcs : Bool) → BehindByte (form_number by_arcs) (Further by_arcs) c h.rest → IsTextOf c bytes
-    further by_arcs t =
+    second : BehindByte 50 Second c h.rest → IsTextOf c bytes
+    second t =
         let cost = t.holds.holds in
         let count = cost.holds.holds in
         subst (IsTextOf c)
-        (sym (h.text ∙ ap (λ x. codes "viaduct-cert " ++ x) (t.text ∙ ap (λ x. form_number by_arcs ∷ x) (t.holds.text ∙ ap (λ x. codes "\ncost " ++ x) (cost.text ∙ ap (λ x. decimal cost.n ++ (newline ∷ x)) (cost.holds.text ∙ ap (λ x. codes "shifts " ++ x) count.text))))))
-        (of_listed by_arcs c cost.n count.n count.rest cost.to_most count.from_least count.to_most count.holds)
+        (sym (h.text ∙ ap (λ x. codes "viaduct-cert " ++ x) (t.text ∙ ap (λ x. 50 ∷ x) (t.holds.text ∙ ap (λ x. codes "\ncost " ++ x) (cost.text ∙ ap (λ x. decimal cost.n ++ (newline ∷ x)) (cost.holds.text ∙ ap (λ x. codes "shifts " ++ x) count.text))))))
+        (of_listed false c cost.n count.n count.rest cost.to_most count.from_least count.to_most count.holds)
+
+    third : (t : BehindByte 51 Third c h.rest) → EitherByte 99 Arcs 101 (Empty true) c t.holds.rest → IsTextOf c bytes
+    third t (inl a) =
+        let cost = a.holds.holds in
+        let count = cost.holds.holds in
+        subst (IsTextOf c)
+        (sym (h.text ∙ ap (λ x. codes "viaduct-cert " ++ x) (t.text ∙ ap (λ x. 51 ∷ x) (t.holds.text ∙ ap (λ x. newline ∷ x) (a.text ∙ ap (λ x. 99 ∷ x) (a.holds.text
+        ∙ ap (λ x. codes "ost " ++ x) (cost.text ∙ ap (λ x. decimal cost.n ++ (newline ∷ x)) (cost.holds.text ∙ ap (λ x. codes "shifts " ++ x) count.text))))))))
+        (of_listed true c cost.n count.n count.rest cost.to_most count.from_least count.to_most count.holds)
+    third t (inr e) =
+        subst (IsTextOf c) (sym (h.text ∙ ap (λ x. codes "viaduct-cert " ++ x) (t.text ∙ ap (λ x. 51 ∷ x) (t.holds.text ∙ ap (λ x. newline ∷ x) (e.text ∙ ap (λ x. 101 ∷ x) e.holds.text)))))
+        (of_empty true c e.holds.rest e.holds.holds)
 
     by : Forms c h.rest → IsTextOf c bytes
     by (inl f) = first f f.holds.holds
-    by (inr (inl t)) = further false t
-    by (inr (inr t)) = further true t
+    by (inr (inl t)) = second t
+    by (inr (inr t)) = third t t.holds.holds
 
 -- ---- and back
 
-further_parts : (by_arcs : Bool) (c : Certificate) (cost : ℕ) (shift : Shift) (shifts : List Shift) → cost ≤ most_number → length (shift ∷ shifts) ≤ most_certificate_shifts → AllByRecursion IsShift (shift ∷ shifts)
-    → c ≡ certificate (Some cost) by_arcs (shift ∷ shifts) c.marks → BehindByte (form_number by_arcs) (Further by_arcs) c (form_number by_arcs ∷ further_text cost (length (shift ∷ shifts)) (flat_map shift_text (shift ∷ shifts) ++ marks_text c.marks))
-further_parts by_arcs c cost shift shifts fits few all whole = record {
-  rest = _;
-  text = refl;
-  holds = record {
-    rest = _;
-    text = refl;
-    holds =
-        record {
-          n = cost;
-          from_least = omega arith;
-          to_most = fits;
-          rest = _;
-          text = refl;
-          holds = record {
-            rest = _;
-            text = refl;
-            holds =
-                record {
-                  n = length (shift ∷ shifts);
-                  from_least = omega arith;
-                  to_most = few;
-                  rest = _;
-                  text = refl;
-                  holds =
-                      record { list = shift ∷ shifts; count = refl; all = all; rest = marks_text c.marks; text = refl; holds = record { more = c.marks; whole = whole; text = refl } };
-                };
-          };
-        };
-  };
-}
+costed_parts : (by_arcs : Bool) (c : Certificate) (cost : ℕ) (shift : Shift) (shifts : List Shift) → cost ≤ most_number → length (shift ∷ shifts) ≤ most_certificate_shifts → AllByRecursion IsShift (shift ∷ shifts)
+    → c ≡ certificate (Some cost) by_arcs (shift ∷ shifts) c.marks → Costed by_arcs c (costed_text cost (length (shift ∷ shifts)) (flat_map shift_text (shift ∷ shifts) ++ marks_text c.marks))
+costed_parts by_arcs c cost shift shifts fits few all whole =
+    record {
+      n = cost;
+      from_least = omega arith;
+      to_most = fits;
+      rest = _;
+      text = refl;
+      holds = record {
+        rest = _;
+        text = refl;
+        holds =
+            record {
+              n = length (shift ∷ shifts);
+              from_least = omega arith;
+              to_most = few;
+              rest = _;
+              text = refl;
+              holds =
+                  record { list = shift ∷ shifts; count = refl; all = all; rest = marks_text c.marks; text = refl; holds = record { more = c.marks; whole = whole; text = refl } };
+            };
+      };
+    }
+
+empty_parts : (by_arcs : Bool) (c : Certificate) → c ≡ certificate None by_arcs [] c.marks → Empty by_arcs c (codes "mpty\n" ++ marks_text c.marks)
+empty_parts by_arcs c whole = record { rest = marks_text c.marks; text = refl; holds = record { more = c.marks; whole = whole; text = refl } }
 
 text_whole : (c : Certificate) (bytes : List ℕ) → IsTextOf c bytes → Whole c bytes
 text_whole c bytes t = by c.cost c.by_arcs c.shifts t.is.cost t.is.few t.is.shifts t.is.none t.is.some t.text refl
   where
-    by : (cost : Option ℕ) (by_arcs : Bool) (shifts : List Shift) → CostFits cost → length shifts ≤ most_certificate_shifts → AllByRecursion IsShift shifts → (cost ≡ None → shifts ≡ []) → (by_arcs ≡ true → 1 ≤ length shifts)
+    by : (cost : Option ℕ) (by_arcs : Bool) (shifts : List Shift) → CostFits cost → length shifts ≤ most_certificate_shifts → AllByRecursion IsShift shifts → (cost ≡ None → shifts ≡ []) → (by_arcs ≡ true → (number : ℕ) → cost ≡ Some number → 1 ≤ length shifts)
         → bytes ≡ text_of (certificate cost by_arcs shifts c.marks) → c ≡ certificate cost by_arcs shifts c.marks → Whole c bytes
     by None by_arcs (shift ∷ shifts) fits few all none some text whole = let bad : shift ∷ shifts ≡ [] = none refl in cc
-    by None true [] fits few all none some text whole = let one = some refl in absurd (omega (arith, one))
+    by None true [] fits few all none some text whole =
+        record {
+          rest = _;
+          text = text;
+          holds = inr (inr (record {
+            rest = _;
+            text = refl;
+            holds = record {
+              rest = _;
+              text = refl;
+              holds = inr (record { rest = _; text = refl; holds = empty_parts true c whole });
+            };
+          }));
+        }
     by None false [] fits few all none some text whole =
         record {
           rest = _;
@@ -483,20 +529,11 @@ text_whole c bytes t = by c.cost c.by_arcs c.shifts t.is.cost t.is.few t.is.shif
             holds = record {
               rest = _;
               text = refl;
-              holds = inr (record {
-                rest = _;
-                text = refl;
-                holds = record {
-                  rest = marks_text c.marks;
-                  text = refl;
-                  holds =
-                      record { more = c.marks; whole = whole; text = refl };
-                };
-              });
+              holds = inr (record { rest = _; text = refl; holds = empty_parts false c whole });
             };
           });
         }
-    by (Some cost) true [] fits few all none some text whole = let one = some refl in absurd (omega (arith, one))
+    by (Some cost) true [] fits few all none some text whole = let one = some refl cost refl in absurd (omega (arith, one))
     by (Some cost) false [] fits few all none some text whole =
         record {
           rest = _;
@@ -521,9 +558,33 @@ text_whole c bytes t = by c.cost c.by_arcs c.shifts t.is.cost t.is.few t.is.shif
           });
         }
     by (Some cost) false (shift ∷ shifts) fits few all none some text whole =
-        record { rest = _; text = text ∙ listed_text c.marks false cost shift shifts; holds = inr (inl (further_parts false c cost shift shifts fits few all whole)) }
+        record {
+          rest = _;
+          text = text ∙ listed_text c.marks false cost shift shifts;
+          holds = inr (inl (record {
+            rest = _;
+            text = refl;
+            holds = record { rest = _; text = refl; holds = costed_parts false c cost shift shifts fits few all whole };
+          }));
+        }
     by (Some cost) true (shift ∷ shifts) fits few all none some text whole =
-        record { rest = _; text = text ∙ listed_text c.marks true cost shift shifts; holds = inr (inr (further_parts true c cost shift shifts fits few all whole)) }
+        record {
+          rest = _;
+          text = text ∙ listed_text c.marks true cost shift shifts;
+          holds = inr (inr (record {
+            rest = _;
+            text = refl;
+            holds = record {
+              rest = _;
+              text = refl;
+              holds = inl (record {
+                rest = _;
+                text = refl;
+                holds = record { rest = _; text = refl; holds = costed_parts true c cost shift shifts fits few all whole };
+              });
+            };
+          }));
+        }
 
 pub scans_texts : Scans scan IsTextOf
 scans_texts = scans_same scan Whole IsTextOf whole_text text_whole scans_parts

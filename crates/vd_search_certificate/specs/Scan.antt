@@ -48,7 +48,8 @@ stops_at rest = Err rest
 
 abbrev pub digits_after : ℕ → ℕ → ℕ → List ℕ → Read
 digits_after most end n [] = stops_at []
-digits_after most end n (b ∷ bytes) = if b == end then read_to n bytes else option_map_or (λ m. digits_after most end m bytes) (with_digit most n b) (stops_at (b ∷ bytes))
+digits_after most end n (b ∷ bytes) =
+    if b == end then read_to n bytes else option_map_or (λ m. digits_after most end m bytes) (with_digit most n b) (stops_at (b ∷ bytes))
 
 abbrev pub number : ℕ → ℕ → ℕ → List ℕ → Read
 number least most end [] = stops_at []
@@ -76,7 +77,8 @@ make_shift at side proto add amount = record { at = at; side = side; proto = pro
 
 abbrev pub scan_amount : ℕ → ℕ → ℕ → Bool → (Shift → Scanner) → Scanner
 scan_amount at side proto add next bytes =
-    after_word (word (blank ∷ []) bytes) (λ rest. after_number (number 1 most_number newline rest) (λ amount. next (make_shift at side proto add amount)))
+    after_word (word (blank ∷ []) bytes)
+    (λ rest. after_number (number 1 most_number newline rest) (λ amount. next (make_shift at side proto add amount)))
 
 abbrev pub scan_sign : ℕ → ℕ → ℕ → (Shift → Scanner) → Scanner
 scan_sign at side proto next = choice 43 (scan_amount at side proto true next) 45 (scan_amount at side proto false next)
@@ -94,7 +96,9 @@ scan_shifts (suc n) shifts next bytes = scan_shift (λ shift. scan_shifts n (shi
 -- ---- marks, to the end
 
 abbrev pub mark_of : ℕ → Option Mark
-mark_of b = if b == 69 then Some Expanded else if b == 86 then Some Violated else if b == 66 then Some Bounded else if b == 76 then Some Best else None
+mark_of b =
+    if b == 69 then Some Expanded else if b == 86 then Some Violated else if b == 66 then Some Bounded else if b == 76 then Some Best
+    else None
 
 abbrev pub certificate : Option ℕ → Bool → List Shift → List Mark → Certificate
 certificate cost by_arcs shifts marks = record { cost = cost; by_arcs = by_arcs; shifts = shifts; marks = marks }
@@ -114,24 +118,31 @@ scan_marks cost by_arcs shifts marks (b ∷ bytes) =
 abbrev pub scan_cost : (ℕ → Scanner) → Scanner
 scan_cost next bytes = after_number (number 0 most_number newline bytes) next
 
-abbrev pub scan_empty : Scanner
-scan_empty bytes = after_word (word (codes "mpty\n") bytes) (scan_marks None false [] [])
+abbrev pub scan_empty : Bool → Scanner
+scan_empty by_arcs bytes = after_word (word (codes "mpty\n") bytes) (scan_marks None by_arcs [] [])
 
 abbrev pub scan_least : Scanner
 scan_least bytes = after_word (word (codes "ost ") bytes) (scan_cost (λ cost. scan_marks (Some cost) false [] []))
 
 abbrev pub scan_first : Scanner
-scan_first bytes = after_word (word (newline ∷ []) bytes) (choice 99 scan_least 101 scan_empty)
+scan_first bytes = after_word (word (newline ∷ []) bytes) (choice 99 scan_least 101 (scan_empty false))
 
 abbrev pub scan_counted : Bool → ℕ → ℕ → Scanner
 scan_counted by_arcs cost count = scan_shifts count [] (λ shifts. scan_marks (Some cost) by_arcs shifts [])
 
 abbrev pub scan_listed : Bool → ℕ → Scanner
-scan_listed by_arcs cost bytes = after_word (word (codes "shifts ") bytes) (λ rest. after_number (number 1 most_certificate_shifts newline rest) (scan_counted by_arcs cost))
+scan_listed by_arcs cost bytes =
+    after_word (word (codes "shifts ") bytes)
+    (λ rest. after_number (number 1 most_certificate_shifts newline rest) (scan_counted by_arcs cost))
 
--- the second form and the third
-abbrev pub scan_further : Bool → Scanner
-scan_further by_arcs bytes = after_word (word (codes "\ncost ") bytes) (scan_cost (scan_listed by_arcs))
+abbrev pub scan_second : Scanner
+scan_second bytes = after_word (word (codes "\ncost ") bytes) (scan_cost (scan_listed false))
+
+abbrev pub scan_arcs : Scanner
+scan_arcs bytes = after_word (word (codes "ost ") bytes) (scan_cost (scan_listed true))
+
+abbrev pub scan_third : Scanner
+scan_third bytes = after_word (word (newline ∷ []) bytes) (choice 99 scan_arcs 101 (scan_empty true))
 
 abbrev pub scan : Scanner
-scan bytes = after_word (word (codes "viaduct-cert ") bytes) (choice_of_three 49 scan_first 50 (scan_further false) 51 (scan_further true))
+scan bytes = after_word (word (codes "viaduct-cert ") bytes) (choice_of_three 49 scan_first 50 scan_second 51 scan_third)

@@ -18,16 +18,22 @@ Moves bytes said (Err (Text at)) = (at ≤ length bytes) × (said ≡ Err (drop 
 Moves bytes said (Err Memory) = ⊥
 
 abbrev pub Numbers : List ℕ → ℕ → ℕ → Read → Result (ℕ × ℕ) FileFault → Type 0
-Numbers bytes least most said (Ok read) = (read.1 ≤ length bytes) × (least ≤ read.0) × (read.0 ≤ most) × (said ≡ Ok (read.0, drop read.1 bytes))
+Numbers bytes least most said (Ok read) =
+    (read.1 ≤ length bytes) × (least ≤ read.0) × (read.0 ≤ most) × (said ≡ Ok (read.0, drop read.1 bytes))
 Numbers bytes least most said (Err (Text at)) = (at ≤ length bytes) × (said ≡ Err (drop at bytes))
 Numbers bytes least most said (Err Memory) = ⊥
 
 abbrev pub AddMoves : List ℕ → ℕ → Result (Bool × ℕ) FileFault → Type 0
-AddMoves bytes start (Ok read) = (read.1 ≤ length bytes) × ((yes no : Scanner) → choice 43 yes 45 no (drop start bytes) ≡ (if read.0 then yes (drop read.1 bytes) else no (drop read.1 bytes)))
-AddMoves bytes start (Err (Text at)) = (at ≤ length bytes) × ((yes no : Scanner) → choice 43 yes 45 no (drop start bytes) ≡ Err (drop at bytes))
+AddMoves bytes start (Ok read) =
+    (read.1 ≤ length bytes)
+    × ((yes no : Scanner) → choice 43 yes 45 no (drop start bytes) ≡ (if read.0 then yes (drop read.1 bytes) else no (drop read.1 bytes)))
+AddMoves bytes start (Err (Text at)) =
+    (at ≤ length bytes) × ((yes no : Scanner) → choice 43 yes 45 no (drop start bytes) ≡ Err (drop at bytes))
 AddMoves bytes start (Err Memory) = ⊥
 
 abbrev pub ShiftMoves : List ℕ → ℕ → Result (Shift × ℕ) FileFault → Type 0
-ShiftMoves bytes start (Ok read) = (read.1 ≤ length bytes) × ((next : Shift → Scanner) → scan_shift next (drop start bytes) ≡ next read.0 (drop read.1 bytes))
-ShiftMoves bytes start (Err (Text at)) = (at ≤ length bytes) × ((next : Shift → Scanner) → scan_shift next (drop start bytes) ≡ Err (drop at bytes))
+ShiftMoves bytes start (Ok read) =
+    (read.1 ≤ length bytes) × ((next : Shift → Scanner) → scan_shift next (drop start bytes) ≡ next read.0 (drop read.1 bytes))
+ShiftMoves bytes start (Err (Text at)) =
+    (at ≤ length bytes) × ((next : Shift → Scanner) → scan_shift next (drop start bytes) ≡ Err (drop at bytes))
 ShiftMoves bytes start (Err Memory) = ⊥

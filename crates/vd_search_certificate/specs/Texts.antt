@@ -30,7 +30,8 @@ marks_text marks = map letter marks ++ codes "\n"
 -- one line: the use, the side, the place of the protocol, a sign and the amount
 abbrev pub shift_text : Shift → List ℕ
 shift_text shift =
-    decimal shift.at ++ codes " " ++ decimal shift.side ++ codes " " ++ decimal shift.proto ++ codes " " ++ sign shift.add ∷ codes " " ++ decimal shift.amount ++ codes "\n"
+    decimal shift.at ++ codes " " ++ decimal shift.side ++ codes " " ++ decimal shift.proto ++ codes " " ++ sign shift.add ∷ codes " "
+    ++ decimal shift.amount ++ codes "\n"
 
 abbrev pub cost_text : ℕ → List ℕ
 cost_text cost = codes "cost " ++ decimal cost ++ codes "\n"
@@ -43,9 +44,13 @@ shifts_text shifts = codes "shifts " ++ decimal (length shifts) ++ codes "\n" ++
 abbrev pub heading : Bool → List ℕ
 heading by_arcs = if by_arcs then codes "viaduct-cert 3\n" else codes "viaduct-cert 2\n"
 
--- the first form has no shifts
+-- that no list is valid, in the first form and in the third
+abbrev pub empty_text : Bool → List ℕ
+empty_text by_arcs = if by_arcs then codes "viaduct-cert 3\nempty\n" else codes "viaduct-cert 1\nempty\n"
+
+-- a cost without shifts has the first form
 abbrev pub claim_text : Option ℕ → Bool → List Shift → List ℕ
-claim_text None by_arcs shifts = codes "viaduct-cert 1\nempty\n"
+claim_text None by_arcs shifts = empty_text by_arcs
 claim_text (Some cost) by_arcs [] = codes "viaduct-cert 1\n" ++ cost_text cost
 claim_text (Some cost) by_arcs (shift ∷ shifts) = heading by_arcs ++ cost_text cost ++ shifts_text (shift ∷ shifts)
 
@@ -68,13 +73,13 @@ abbrev pub CostFits : Option ℕ → Type 0
 CostFits None = Unit {0}
 CostFits (Some cost) = cost ≤ most_number
 
--- what a certificate keeps: few shifts, none where it says that there is no list, and some where it goes by arcs
+-- what a certificate keeps: few shifts, none where it says that there is no list, and some where its cost goes by arcs
 pub record IsCertificate (c : Certificate) : Type 0 where
   pub cost : CostFits c.cost
   pub few : length c.shifts ≤ most_certificate_shifts
   pub shifts : AllByRecursion IsShift c.shifts
   pub none : c.cost ≡ None → c.shifts ≡ []
-  pub some : c.by_arcs ≡ true → 1 ≤ length c.shifts
+  pub some : c.by_arcs ≡ true → (cost : ℕ) → c.cost ≡ Some cost → 1 ≤ length c.shifts
 
 -- the bytes are the certificate's text
 pub record IsTextOf (c : Certificate) (bytes : List ℕ) : Type 0 where

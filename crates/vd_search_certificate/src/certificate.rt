@@ -19,7 +19,8 @@ pub enum Mark {
 pub struct Certificate {
     /// The stated cost; none where there is no valid list.
     pub cost: Option<u32>,
-    /// Whether the shifts name arcs, and prefixes are bounded by these.
+    /// Whether it has the third form: its shifts name arcs, by which prefixes are bounded, and a prefix is not valid before a
+    /// slot that has no candidate.
     pub by_arcs: bool,
     /// The shifts under which prefixes are bounded.
     pub shifts: Items<Shift>,

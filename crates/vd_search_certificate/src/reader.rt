@@ -2,7 +2,7 @@
 
 ghost use Rattle.std.specs.Prelude.{◌≡◌, ◌≤◌, ◌<◌, length, drop};
 ghost use Rattle.vd_base.specs.Limits.{most_certificate_bytes, most_certificate_shifts};
-ghost use Rattle.vd_search_certificate.specs.Scan.{choice, first_digit, mark_of, number, scan, scan_counted, scan_empty, scan_first, scan_further, scan_least, scan_listed, scan_marks, with_digit, word};
+ghost use Rattle.vd_search_certificate.specs.Scan.{choice, first_digit, mark_of, number, scan, scan_arcs, scan_counted, scan_empty, scan_first, scan_least, scan_listed, scan_marks, scan_second, scan_third, with_digit, word};
 ghost use Rattle.vd_search_certificate.specs.Steps.{AddMoves, Moves, Numbers, Said, ShiftMoves};
 
 use crate::certificate::{Certificate, Mark};
@@ -20,8 +20,8 @@ pub(crate) fn read_certificate(alloc: Global, bytes: &[u8]) -> Result<Certificat
     let at = read_word(bytes, 0, b"viaduct-cert ")?;
     match bytes.get(at) {
         Some(b'1') => read_first(alloc, bytes, at + 1),
-        Some(b'2') => read_further(alloc, bytes, at + 1, false),
-        Some(b'3') => read_further(alloc, bytes, at + 1, true),
+        Some(b'2') => read_second(alloc, bytes, at + 1),
+        Some(b'3') => read_third(alloc, bytes, at + 1),
         _ => Err(FileFault::Text(at as u32)),
     }
 }
@@ -35,7 +35,7 @@ fn read_first(alloc: Global, bytes: &[u8], start: usize) -> Result<Certificate, 
     let at = read_word(bytes, start, b"\n")?;
     match bytes.get(at) {
         Some(b'c') => read_least(alloc, bytes, at + 1),
-        Some(b'e') => read_empty(alloc, bytes, at + 1),
+        Some(b'e') => read_empty(alloc, bytes, at + 1, false),
         _ => Err(FileFault::Text(at as u32)),
     }
 }
@@ -59,17 +59,7 @@ fn read_least(alloc: Global, bytes: &[u8], start: usize) -> Result<Certificate, 
 }
 
 /// Behind the first letter of the claim that there is no list.
-fn read_empty(alloc: Global, bytes: &[u8], start: usize) -> Result<Certificate, FileFault>
-    requires few { length bytes.now ≤ most_certificate_bytes }
-    requires start { start ≤ length bytes.now }
-    ensures { Said bytes.now (scan_empty (drop start bytes.now)) result }
-{
-    let at = read_word(bytes, start, b"mpty\n")?;
-    read_marks(bytes, at, None, false, Items::new(alloc), Items::new(alloc))
-}
-
-/// Behind the number of the second form, or of the third, whose shifts name arcs.
-fn read_further(
+fn read_empty(
     alloc: Global,
     bytes: &[u8],
     start: usize,
@@ -77,11 +67,53 @@ fn read_further(
 ) -> Result<Certificate, FileFault>
     requires few { length bytes.now ≤ most_certificate_bytes }
     requires start { start ≤ length bytes.now }
-    ensures { Said bytes.now (scan_further by_arcs (drop start bytes.now)) result }
+    ensures { Said bytes.now (scan_empty by_arcs (drop start bytes.now)) result }
+{
+    let at = read_word(bytes, start, b"mpty\n")?;
+    read_marks(
+        bytes,
+        at,
+        None,
+        by_arcs,
+        Items::new(alloc),
+        Items::new(alloc),
+    )
+}
+
+/// Behind the number of the second form.
+fn read_second(alloc: Global, bytes: &[u8], start: usize) -> Result<Certificate, FileFault>
+    requires few { length bytes.now ≤ most_certificate_bytes }
+    requires start { start ≤ length bytes.now }
+    ensures { Said bytes.now (scan_second (drop start bytes.now)) result }
 {
     let at = read_word(bytes, start, b"\ncost ")?;
     let (cost, at) = read_number(bytes, at, 0, u32::MAX, b'\n')?;
-    read_listed(alloc, bytes, at, by_arcs, cost)
+    read_listed(alloc, bytes, at, false, cost)
+}
+
+/// Behind the number of the third form.
+fn read_third(alloc: Global, bytes: &[u8], start: usize) -> Result<Certificate, FileFault>
+    requires few { length bytes.now ≤ most_certificate_bytes }
+    requires start { start ≤ length bytes.now }
+    ensures { Said bytes.now (scan_third (drop start bytes.now)) result }
+{
+    let at = read_word(bytes, start, b"\n")?;
+    match bytes.get(at) {
+        Some(b'c') => read_arcs(alloc, bytes, at + 1),
+        Some(b'e') => read_empty(alloc, bytes, at + 1, true),
+        _ => Err(FileFault::Text(at as u32)),
+    }
+}
+
+/// Behind the first letter of a cost in the third form, whose shifts name arcs.
+fn read_arcs(alloc: Global, bytes: &[u8], start: usize) -> Result<Certificate, FileFault>
+    requires few { length bytes.now ≤ most_certificate_bytes }
+    requires start { start ≤ length bytes.now }
+    ensures { Said bytes.now (scan_arcs (drop start bytes.now)) result }
+{
+    let at = read_word(bytes, start, b"ost ")?;
+    let (cost, at) = read_number(bytes, at, 0, u32::MAX, b'\n')?;
+    read_listed(alloc, bytes, at, true, cost)
 }
 
 /// The shifts and marks behind a cost.

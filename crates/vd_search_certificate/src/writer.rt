@@ -1,7 +1,7 @@
 //! The text of certificates.
 
 ghost use Rattle.std.specs.Prelude.{◌≡◌, ◌++◌, [], ◌∷◌, OnOk, IfOk, decimal, codes, flat_map};
-ghost use Rattle.vd_search_certificate.specs.Texts.{claim_text, cost_text, heading, letter, marks_text, shift_text, shifts_text, sign, text_of};
+ghost use Rattle.vd_search_certificate.specs.Texts.{claim_text, cost_text, empty_text, heading, letter, marks_text, shift_text, shifts_text, sign, text_of};
 
 use crate::certificate::{Certificate, Mark};
 use itoa::Buffer;
@@ -37,8 +37,19 @@ fn push_claim(
     ensures { OnOk result (text.new ≡ text.old ++ claim_text cost by_arcs shifts.now) }
 {
     match cost {
-        None => text.extend_from_slice(b"viaduct-cert 1\nempty\n"),
+        None => push_empty(text, by_arcs),
         Some(cost) => push_bounded(text, cost, by_arcs, shifts),
+    }
+}
+
+/// Puts the lines of the claim that there is no list at the end.
+fn push_empty(text: &mut Bytes, by_arcs: bool) -> Result<(), AllocError>
+    ensures { OnOk result (text.new ≡ text.old ++ empty_text by_arcs) }
+{
+    if by_arcs {
+        text.extend_from_slice(b"viaduct-cert 3\nempty\n")
+    } else {
+        text.extend_from_slice(b"viaduct-cert 1\nempty\n")
     }
 }
 

@@ -1,22 +1,26 @@
 -- What a search answers, as a selection.
-use Rattle.std.proofs.Common.{◌≡◌, ℕ, ◌+◌, ◌<◌, ◌≤◌, ◌&&◌, true, false, Option, Some, None, List, [], ◌∷◌, ◌++◌, length, refl, sym, ◌∙◌, subst, arith, ℤ, pos, ◌≤ℤ◌}
+use Rattle.std.proofs.Common.{◌≡◌, ℕ, ◌+◌, ◌<◌, ◌≤◌, Bool, true, false, ap, Err, Ok, Option, Some, None, List, [], ◌∷◌, length, refl, sym, ◌∙◌, subst, arith, ℤ, pos}
 use Rattle.std.specs.Prelude.{nat_lt}
 use Rattle.std.specs.List.{AllByRecursion}
+use Rattle.std.specs.Option.{option_map_or}
 use Rattle.std.proofs.lemmas.Int.{ints}
 use Rattle.std.proofs.lemmas.Bool.{true≢false, lt-ltb, and_from}
 use Rattle.vd_base.specs.Limits.{most_certificate_shifts}
 use Rattle.vd_search_tree.specs.declared.shift.Shift.{Shift}
-use Rattle.vd_search_tree.specs.Trees.{IsWhole, IsChoice, IsEmpty}
+use Rattle.vd_search_tree.specs.Trees.{IsWhole, IsChoice, IsEmpty, Tree}
 use Rattle.vd_search_certificate.specs.declared.certificate.Mark.{Mark}
-use Rattle.vd_search_certificate.specs.declared.certificate.Mark.TheVariants.{Expanded, Violated, Bounded, Best}
 use Rattle.vd_search_certificate.specs.Texts.{IsShift}
-use Rattle.vd_bound.specs.Marks.{MarkHolds, AreTrees, opened_by, IsSound, IsLeastCost, count_of, is_expanded}
+use Rattle.vd_bound.specs.Marks.{IsSound, IsLeastCost, count_of, is_expanded}
 use Rattle.vd_bound.specs.Checking.{checked}
 use Rattle.vd_bound.specs.Shifts.{first_bad}
-use Rattle.vd_bound.proofs.Front.{sound_is_yes}
+use Rattle.vd_bound.specs.declared.checking.CheckFault.TheVariants.{BadShift}
+use Rattle.vd_bound.specs.declared.checking.Proved.{Proved}
+use Rattle.vd_bound.proofs.Front.{sound_also, sound_is_yes, yes_is_sound}
 use Rattle.vd_search.specs.Answers.{IsLeast}
 use Rattle.vd_space.specs.declared.problem.Problem.{Problem}
-use Rattle.vd_space.specs.Validity.{protocols}
+use Rattle.vd_space.specs.Bounds.{high}
+use Rattle.vd_space.specs.Validity.{is_valid, protocols}
+use Rattle.vd_cost_network.specs.Network.{network_high, network_tree}
 use Rattle.vd_space.specs.Costs.{cost}
 use Rattle.vd_space.specs.Spaces.{IsProblem, tree_of}
 use Rattle.vd_space.specs.Usual.{usual, firm}
@@ -24,8 +28,10 @@ use Rattle.vd_space.proofs.Front.{high_whole, tree_bounded}
 use Rattle.vd_search_stages.specs.Choices.{IsChosen, needed}
 use Rattle.vd_search_stages.specs.Confirming.{confirmed}
 use Rattle.vd_search_stages.specs.Naming.{NamesUse}
-use Rattle.vd_search_stages.specs.Selecting.{Selects, IsOver}
+use Rattle.vd_search_stages.specs.Selecting.{IsAccepted, IsOver, Selects, refuted}
+use Rattle.vd_search_stages.specs.SoFar.{is_bare, so_far_tree}
 use Rattle.vd_search_stages.specs.declared.selecting.Selection.TheVariants.{Found, NoAssignment}
+use Rattle.vd_search_stages.proofs.SoFar.{full_tree, full_where}
 
 -- ---- shifts that name something
 
@@ -36,14 +42,42 @@ none_bad problem at (shift ∷ shifts) named =
     let rest = none_bad problem (at + 1) shifts named.1 in
     rw good rest
 
--- the checker answers of the marks, where all shifts name something
-without_bad : (problem : Problem) (stated : Option ℕ) (shifts : List Shift) (marks : List Mark) → first_bad (length problem.uses) (length (protocols problem)) 0 shifts ≡ None
+-- the checker answers of the marks, where all shifts name something and each slot has a candidate
+without_bad : (problem : Problem) (stated : Option ℕ) (shifts : List Shift) (marks : List Mark) → is_bare problem ≡ false → first_bad (length problem.uses) (length (protocols problem)) 0 shifts ≡ None
     → confirmed problem (record { cost = stated; by_arcs = false; shifts = shifts; marks = marks }) ≡ checked (tree_of problem shifts) stated marks
-without_bad problem stated shifts marks none = rw none refl
+without_bad problem stated shifts marks full none =
+    ap (λ (bad : Option ℕ). option_map_or (λ shift. Err (BadShift shift)) bad (checked (so_far_tree problem shifts) stated marks)) none
+    ∙ ap (λ (tree : Tree). checked tree stated marks) (full_tree problem (high problem shifts) full)
 
 are_shifts : (problem : Problem) (shifts : List Shift) → AllByRecursion (NamesUse problem) shifts → AllByRecursion IsShift shifts
 are_shifts problem [] named = tt
 are_shifts problem (shift ∷ shifts) named = ((named.0).is, are_shifts problem shifts named.1)
+
+-- ---- that no list is valid
+
+pub refuted_is_accepted : (problem : Problem) (budget : ℕ) (marks : List Mark) → IsSound (network_tree problem []) None marks → count_of is_expanded marks ≤ budget → IsAccepted problem budget (refuted marks)
+refuted_is_accepted problem budget marks sound within = record {
+  proved = (sound_is_yes (network_tree problem []) None marks sound).0;
+  accepted = (sound_is_yes (network_tree problem []) None marks sound).1;
+  has_text = record { cost = tt; few = omega arith; shifts = tt; none = λ e. refl; some = λ e number is. absurd (cc is) };
+  within = within;
+}
+
+-- and in the first form, where each slot has a candidate
+pub form_accepted : (problem : Problem) (budget : ℕ) (marks : List Mark) → IsAccepted problem budget (refuted marks) → (bare : Bool) → is_bare problem ≡ bare
+    → IsAccepted problem budget (record { cost = None; by_arcs = bare; shifts = []; marks = marks })
+form_accepted problem budget marks is true bare = is
+form_accepted problem budget marks is false full = record {
+  proved = yes.0;
+  accepted = without_bad problem None [] marks full refl ∙ yes.1;
+  has_text = record { cost = tt; few = omega arith; shifts = tt; none = λ e. refl; some = λ e number is. absurd (true≢false (sym e)) };
+  within = is.within;
+}
+  where
+    yes : (proved : Proved) × (checked (tree_of problem []) None marks ≡ Ok proved)
+    yes =
+        sound_is_yes (tree_of problem []) None marks
+        (sound_also (length problem.slots) (length (protocols problem)) (is_valid problem) (network_high problem []) (high problem []) marks (yes_is_sound (network_tree problem []) None marks is.proved is.accepted))
 
 -- ---- trees under other shifts
 
@@ -71,28 +105,6 @@ module _ (problem : Problem) (is : IsProblem problem) where
   empty_under : (one two : List Shift) → IsEmpty (tree_of problem one) → IsEmpty (tree_of problem two)
   empty_under one two empty list whole = empty list (whole_under two one list whole)
 
-  -- marks that say nothing of bounds
-  holds_under : (one two : List Shift) (prefix : List ℕ) (mark : Mark) → MarkHolds (tree_of problem one) None prefix mark → MarkHolds (tree_of problem two) None prefix mark
-  holds_under one two prefix Expanded holds = holds
-  holds_under one two prefix Violated holds = holds
-  holds_under one two prefix Bounded holds = absurd holds
-  holds_under one two prefix Best holds = absurd holds
-
-  opened_under : (one two : List Shift) (prefix : List ℕ) (mark : Mark) → opened_by (tree_of problem one) prefix mark ≡ opened_by (tree_of problem two) prefix mark
-  opened_under one two prefix Expanded = refl
-  opened_under one two prefix Violated = refl
-  opened_under one two prefix Bounded = refl
-  opened_under one two prefix Best = refl
-
-  trees_under : (one two : List Shift) (marks : List Mark) (waiting : List (List ℕ)) → AreTrees (tree_of problem one) None waiting marks → AreTrees (tree_of problem two) None waiting marks
-  trees_under one two [] [] trees = tt
-  trees_under one two [] (prefix ∷ waiting) trees = absurd trees
-  trees_under one two (mark ∷ marks) [] trees = absurd trees
-  trees_under one two (mark ∷ marks) (prefix ∷ waiting) trees = (
-    holds_under one two prefix mark trees.0,
-    trees_under one two marks (opened_by (tree_of problem two) prefix mark ++ waiting) (subst (λ (w : List (List ℕ)). AreTrees (tree_of problem one) None (w ++ waiting) marks) (opened_under one two prefix mark) trees.1),
-  )
-
   -- ---- what a search answers
 
   pub found_selects : (shifts : List Shift) (budget least : ℕ) (list : List ℕ) (marks : List Mark) → AllByRecursion (NamesUse problem) shifts → length shifts ≤ most_certificate_shifts
@@ -103,10 +115,11 @@ module _ (problem : Problem) (is : IsProblem problem) where
     sym (costs shifts list choice.choice.whole) ∙ choice.costs,
     record {
       proved = (sound_is_yes (tree_of problem shifts) (Some least) marks sound).0;
-      accepted = without_bad problem (Some least) shifts marks (none_bad problem 0 shifts named) ∙ (sound_is_yes (tree_of problem shifts) (Some least) marks sound).1;
-      has_text = record { cost = fits; few = few; shifts = are_shifts problem shifts named; none = λ e. absurd (cc e); some = λ e. absurd (true≢false (sym e)) };
+      accepted = without_bad problem (Some least) shifts marks (full_where problem list choice.choice.whole.valid) (none_bad problem 0 shifts named) ∙ (sound_is_yes (tree_of problem shifts) (Some least) marks sound).1;
+      has_text = record { cost = fits; few = few; shifts = are_shifts problem shifts named; none = λ e. absurd (cc e); some = λ e number is. absurd (true≢false (sym e)) };
       within = within;
     },
+    refl,
   )
     where
       fits : least ≤ 4294967295
@@ -118,19 +131,13 @@ module _ (problem : Problem) (is : IsProblem problem) where
           omega (arith, ints, small, one, two)
 
   pub none_selects : (shifts : List Shift) (budget : ℕ) (marks : List Mark) → IsEmpty (tree_of problem shifts) → IsSound (tree_of problem shifts) None marks → count_of is_expanded marks ≤ budget
-      → Selects problem budget (NoAssignment (record { cost = None; by_arcs = false; shifts = []; marks = marks }))
+      → Selects problem budget (NoAssignment (refuted marks))
   none_selects shifts budget marks empty sound within = (
     empty_under shifts [] empty,
-    record {
-      proved = (sound_is_yes (tree_of problem []) None marks under).0;
-      accepted = without_bad problem None [] marks refl ∙ (sound_is_yes (tree_of problem []) None marks under).1;
-      has_text = record { cost = tt; few = omega arith; shifts = tt; none = λ e. refl; some = λ e. absurd (true≢false (sym e)) };
-      within = within;
-    },
+    refuted_is_accepted problem budget marks
+        (sound_also (length problem.slots) (length (protocols problem)) (is_valid problem) (high problem shifts) (network_high problem []) marks sound) within,
+    refl,
   )
-    where
-      under : IsSound (tree_of problem []) None marks
-      under = record { trees = trees_under shifts [] marks ([] ∷ []) sound.trees; one_best = sound.one_best }
 
   -- ---- a budget that is spent
 

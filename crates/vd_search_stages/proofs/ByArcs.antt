@@ -1,38 +1,38 @@
 -- What the search by arcs answers, as a selection.
-use Rattle.std.proofs.Common.{◌≡◌, ℕ, ◌+◌, ◌<◌, ◌≤◌, true, false, Option, Some, None, Result, Ok, Err, List, [], ◌∷◌, ◌++◌, length, refl, sym, ◌∙◌, subst, arith, ℤ}
+use Rattle.std.proofs.Common.{◌≡◌, ℕ, ◌+◌, ◌≤◌, true, Option, Some, None, Result, Ok, Err, List, [], ◌∷◌, length, refl, sym, ◌∙◌, subst, arith}
 use Rattle.std.specs.Prelude.{IfOk, nat_lt}
 use Rattle.std.specs.List.{AllByRecursion}
 use Rattle.std.proofs.lemmas.Int.{ints}
-use Rattle.std.proofs.lemmas.Bool.{true≢false, lt-ltb, and_from}
+use Rattle.std.proofs.lemmas.Bool.{lt-ltb, and_from}
 use Rattle.vd_base.specs.Limits.{most_certificate_shifts}
 use Rattle.vd_search_tree.specs.declared.shift.Shift.{Shift}
 use Rattle.vd_search_tree.specs.Trees.{IsWhole, IsChoice, IsEmpty}
 use Rattle.vd_search_certificate.specs.declared.certificate.Mark.{Mark}
-use Rattle.vd_search_certificate.specs.declared.certificate.Mark.TheVariants.{Expanded, Violated, Bounded, Best}
 use Rattle.vd_search_certificate.specs.declared.certificate.Certificate.{Certificate}
 use Rattle.vd_search_certificate.specs.Texts.{IsShift}
-use Rattle.vd_bound.specs.Marks.{MarkHolds, AreTrees, opened_by, IsSound, count_of, is_expanded}
+use Rattle.vd_bound.specs.Marks.{IsSound, count_of, is_expanded}
 use Rattle.vd_bound.specs.Checking.{checked}
 use Rattle.vd_bound.specs.Shifts.{first_bad}
-use Rattle.vd_bound.proofs.Front.{sound_is_yes}
+use Rattle.vd_bound.proofs.Front.{sound_also, sound_is_yes}
 use Rattle.vd_search.specs.Answers.{Answers, IsLeast}
 use Rattle.vd_search.specs.declared.answers.Answer.TheVariants as answer
 use Rattle.vd_space.specs.declared.problem.Problem.{Problem}
 use Rattle.vd_space.specs.Labelled.{IsLabelled}
-use Rattle.vd_space.specs.Validity.{protocols}
+use Rattle.vd_space.specs.Validity.{is_valid, protocols}
 use Rattle.vd_space.specs.Costs.{cost}
 use Rattle.vd_space.specs.Spaces.{IsProblem, tree_of}
 use Rattle.vd_space.proofs.Front.{high_whole, few_in}
 use Rattle.vd_cost_network.specs.Arcs.{arcs}
-use Rattle.vd_cost_network.specs.Network.{network_tree}
+use Rattle.vd_cost_network.specs.Network.{network_high, network_tree}
 use Rattle.vd_cost_network.proofs.Front.{network_high_whole, network_tree_bounded}
 use Rattle.vd_cost_network_prefix.specs.declared.made.NetworkTables.{NetworkTables}
 use Rattle.vd_cost_network_prefix.specs.Tables.{AreNetworkTables}
 use Rattle.vd_cost_network_shifts.specs.Shifts.{AreArcShifts, IsArcShift}
 use Rattle.vd_search_stages.specs.Confirming.{confirmed}
 use Rattle.vd_search_stages.specs.Network.{CanUseArcs, NamesArc}
-use Rattle.vd_search_stages.specs.Selecting.{Selects}
+use Rattle.vd_search_stages.specs.Selecting.{Selects, refuted}
 use Rattle.vd_search_stages.specs.declared.selecting.Selection.TheVariants.{Found, NoAssignment}
+use Rattle.vd_search_stages.proofs.Accepted.{refuted_is_accepted}
 
 -- ---- shifts that name arcs
 
@@ -80,28 +80,6 @@ module _ (problem : Problem) (is : IsProblem problem) (shifts : List Shift) wher
   empty_of : IsEmpty (network_tree problem shifts) → IsEmpty (tree_of problem [])
   empty_of empty list whole = empty list (network_whole list whole)
 
-  -- marks that say nothing of bounds
-  holds_plain : (prefix : List ℕ) (mark : Mark) → MarkHolds (network_tree problem shifts) None prefix mark → MarkHolds (tree_of problem []) None prefix mark
-  holds_plain prefix Expanded holds = holds
-  holds_plain prefix Violated holds = holds
-  holds_plain prefix Bounded holds = absurd holds
-  holds_plain prefix Best holds = absurd holds
-
-  opened_plain : (prefix : List ℕ) (mark : Mark) → opened_by (network_tree problem shifts) prefix mark ≡ opened_by (tree_of problem []) prefix mark
-  opened_plain prefix Expanded = refl
-  opened_plain prefix Violated = refl
-  opened_plain prefix Bounded = refl
-  opened_plain prefix Best = refl
-
-  trees_plain : (marks : List Mark) (waiting : List (List ℕ)) → AreTrees (network_tree problem shifts) None waiting marks → AreTrees (tree_of problem []) None waiting marks
-  trees_plain [] [] trees = tt
-  trees_plain [] (prefix ∷ waiting) trees = absurd trees
-  trees_plain (mark ∷ marks) [] trees = absurd trees
-  trees_plain (mark ∷ marks) (prefix ∷ waiting) trees = (
-    holds_plain prefix mark trees.0,
-    trees_plain marks (opened_by (tree_of problem []) prefix mark ++ waiting) (subst (λ (w : List (List ℕ)). AreTrees (network_tree problem shifts) None (w ++ waiting) marks) (opened_plain prefix mark) trees.1),
-  )
-
   -- ---- what the search answers
 
   found_selects : (budget least : ℕ) (list : List ℕ) (marks : List Mark) → AllByRecursion (NamesArc problem) shifts → length shifts ≤ most_certificate_shifts → 1 ≤ length shifts
@@ -113,9 +91,10 @@ module _ (problem : Problem) (is : IsProblem problem) (shifts : List Shift) wher
     record {
       proved = (sound_is_yes (network_tree problem shifts) (Some least) marks sound).0;
       accepted = without_bad problem (Some least) shifts marks (none_bad problem 0 shifts named) ∙ (sound_is_yes (network_tree problem shifts) (Some least) marks sound).1;
-      has_text = record { cost = fits; few = few; shifts = are_shifts problem shifts named; none = λ e. absurd (cc e); some = λ e. some };
+      has_text = record { cost = fits; few = few; shifts = are_shifts problem shifts named; none = λ e. absurd (cc e); some = λ e number is. some };
       within = within;
     },
+    refl,
   )
     where
       fits : least ≤ 4294967295
@@ -127,19 +106,13 @@ module _ (problem : Problem) (is : IsProblem problem) (shifts : List Shift) wher
           omega (arith, ints, small, one, two)
 
   none_selects : (budget : ℕ) (marks : List Mark) → IsEmpty (network_tree problem shifts) → IsSound (network_tree problem shifts) None marks → count_of is_expanded marks ≤ budget
-      → Selects problem budget (NoAssignment (record { cost = None; by_arcs = false; shifts = []; marks = marks }))
+      → Selects problem budget (NoAssignment (refuted marks))
   none_selects budget marks empty sound within = (
     empty_of empty,
-    record {
-      proved = (sound_is_yes (tree_of problem []) None marks under).0;
-      accepted = (sound_is_yes (tree_of problem []) None marks under).1;
-      has_text = record { cost = tt; few = omega arith; shifts = tt; none = λ e. refl; some = λ e. absurd (true≢false (sym e)) };
-      within = within;
-    },
+    refuted_is_accepted problem budget marks
+        (sound_also (length problem.slots) (length (protocols problem)) (is_valid problem) (network_high problem shifts) (network_high problem []) marks sound) within,
+    refl,
   )
-    where
-      under : IsSound (tree_of problem []) None marks
-      under = record { trees = trees_plain marks ([] ∷ []) sound.trees; one_best = sound.one_best }
 
 -- ---- on a path that is the problem's, under the shifts of tables
 
@@ -150,11 +123,11 @@ found problem p tables t budget least list marks c same_problem same_tables hold
     = subst (λ (x : NetworkTables). Answers (network_tree problem x.shifts) budget (answer.Found list least marks)) same_tables (subst (λ (q : Problem). Answers (network_tree q t.shifts) budget (answer.Found list least marks)) same_problem answers) in
     subst (λ (k : Certificate). Selects problem budget (Found list least k)) (sym is) (found_selects problem holds tables.shifts budget least list marks can.named can.few can.some a.0 a.1 a.2)
 
-pub empty : (problem p : Problem) (t : NetworkTables) (budget : ℕ) (shifts : List Shift) (marks : List Mark) → p ≡ problem → shifts ≡ [] → IsProblem problem → Answers (network_tree p t.shifts) budget (answer.Empty marks)
-    → Selects problem budget (NoAssignment (record { cost = None; by_arcs = false; shifts = shifts; marks = marks }))
-empty problem p t budget shifts marks same_problem none holds answers =
+pub empty : (problem p : Problem) (t : NetworkTables) (budget : ℕ) (marks : List Mark) (c : Certificate) → p ≡ problem → c ≡ refuted marks → IsProblem problem → Answers (network_tree p t.shifts) budget (answer.Empty marks)
+    → Selects problem budget (NoAssignment c)
+empty problem p t budget marks c same_problem is holds answers =
     let a : Answers (network_tree problem t.shifts) budget (answer.Empty marks) = subst (λ (q : Problem). Answers (network_tree q t.shifts) budget (answer.Empty marks)) same_problem answers in
-    subst (λ (s : List Shift). Selects problem budget (NoAssignment (record { cost = None; by_arcs = false; shifts = s; marks = marks }))) (sym none) (none_selects problem holds t.shifts budget marks a.0 a.1 a.2)
+    subst (λ (k : Certificate). Selects problem budget (NoAssignment k)) (sym is) (none_selects problem holds t.shifts budget marks a.0 a.1 a.2)
 
 -- ---- better shifts
 

@@ -1,4 +1,5 @@
 pub mod Front
+mod SoFar
 mod Chosen
 mod Once
 mod Accepted

@@ -15,11 +15,12 @@ use Rattle.vd_cost_network_prefix.specs.Tables.{AreNetworkTables}
 use Rattle.vd_space_prefix.specs.declared.tables.Tables.{Tables}
 use Rattle.vd_space_prefix.specs.Tables.{AreTables}
 use Rattle.vd_space.specs.declared.problem.Problem.{Problem}
-use Rattle.vd_space.specs.Spaces.{tree_of}
+use Rattle.vd_search_stages.specs.SoFar.{so_far_tree}
 
--- the bounds are those under the shifts that the certificate has, which name uses, or by its form arcs
+-- The bounds are those under the shifts that the certificate has, which name uses, or by its form arcs. In this third form
+-- alone a prefix is not valid before a slot that has no candidate.
 abbrev pub tree_by : Problem → Certificate → Tree
-tree_by problem c = if c.by_arcs then network_tree problem c.shifts else tree_of problem c.shifts
+tree_by problem c = if c.by_arcs then network_tree problem c.shifts else so_far_tree problem c.shifts
 
 abbrev pub names_by : Problem → Certificate → ℕ
 names_by problem c = if c.by_arcs then length (arcs problem) else length problem.uses

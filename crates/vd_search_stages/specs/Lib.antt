@@ -1,3 +1,4 @@
+pub mod SoFar
 pub mod Choices
 pub mod Confirming
 pub mod Selecting

@@ -47,7 +47,8 @@ pub record HasArcShifts (problem : Problem) (shifts : List Shift) : Type 0 where
 -- what an answer of the search by arcs comes to, whatever the problem and the budget are
 abbrev pub Tells : NetworkTables → Answer → Selection → Type 0
 Tells by_arcs answer selection =
-    (problem : Problem) (budget : ℕ) → IsProblem problem → CanUseArcs problem by_arcs → Answers (network_tree problem by_arcs.shifts) budget answer → Selects problem budget selection
+    (problem : Problem) (budget : ℕ) → IsProblem problem → CanUseArcs problem by_arcs
+    → Answers (network_tree problem by_arcs.shifts) budget answer → Selects problem budget selection
 
 -- no list of at most that cost begins so, under whatever shifts
 abbrev pub IsBeyond : Problem → ℕ → List ℕ → Type 0

@@ -1,6 +1,7 @@
 -- What a selection of protocols comes to.
-use Rattle.std.specs.Prelude.{◌≡◌, ℕ, ◌≤◌, Some, None, Ok, List, [], pos, ◌≤ℤ◌}
+use Rattle.std.specs.Prelude.{◌≡◌, ℕ, ◌≤◌, true, Some, None, Ok, List, [], pos, ◌≤ℤ◌}
 use Rattle.vd_search_certificate.specs.declared.certificate.Certificate.{Certificate}
+use Rattle.vd_search_certificate.specs.declared.certificate.Mark.{Mark}
 use Rattle.vd_search_certificate.specs.Texts.{IsCertificate}
 use Rattle.vd_bound.specs.declared.checking.Proved.{Proved}
 use Rattle.vd_bound.specs.Marks.{count_of, is_expanded}
@@ -22,10 +23,15 @@ pub record IsAccepted (problem : Problem) (budget : ℕ) (c : Certificate) : Typ
   pub has_text : IsCertificate c
   pub within : count_of is_expanded c.marks ≤ budget
 
+-- the certificate that says that no list is valid, in the third form
+abbrev pub refuted : List Mark → Certificate
+refuted marks = record { cost = None; by_arcs = true; shifts = []; marks = marks }
+
 -- the choice with its cost, or that there is none; and a certificate of that
 abbrev pub Selects : Problem → ℕ → Selection → Type 0
-Selects problem budget (Found list least c) = IsChosen problem (Some list) × (cost problem list ≡ pos least) × IsAccepted problem budget c
-Selects problem budget (NoAssignment c) = IsChosen problem None × IsAccepted problem budget c
+Selects problem budget (Found list least c) =
+    IsChosen problem (Some list) × (cost problem list ≡ pos least) × IsAccepted problem budget c × (c.cost ≡ Some least)
+Selects problem budget (NoAssignment c) = IsChosen problem None × IsAccepted problem budget c × (c ≡ refuted c.marks)
 
 -- under these shifts, more prefixes are within the least cost than the budget has, or are valid where no list is
 abbrev pub IsOver : Problem → List Shift → ℕ → Type 0

@@ -48,10 +48,12 @@ HasNoRootBound tree = (most : ℕ) → IsRootBound tree most → ⊥
 -- with the prefixes that a walk to the bound of all lists passes over, the budget does not do, or the least cost is another
 abbrev pub IsOverByWalk : Problem → List Shift → ℕ → (ℕ → Option (List (List ℕ)) → Type 0) → Type 0
 IsOverByWalk problem shifts budget walks_give =
-    (most : ℕ) → IsRootBound (network_tree problem shifts) most → GivesOnly (walks_give most) (λ passed. WhySpent (network_tree problem shifts) most passed budget)
+    (most : ℕ) → IsRootBound (network_tree problem shifts) most → GivesOnly (walks_give most)
+    (λ passed. WhySpent (network_tree problem shifts) most passed budget)
 
 -- Neither search by arcs ends: by these shifts alone, and where a walk breaks ties.
-pub record IsSpentByArcs (problem : Problem) (budget : ℕ) (walks_give : ℕ → Option (List (List ℕ)) → Type 0) (shifts : List Shift) : Type 0 where
+pub record IsSpentByArcs (problem : Problem) (budget : ℕ) (walks_give : ℕ → Option (List (List ℕ)) → Type 0)
+    (shifts : List Shift) : Type 0 where
   pub over : IsOverByArcs problem shifts budget
   pub walked : IsOverByWalk problem shifts budget walks_give
 
@@ -61,7 +63,8 @@ pub record IsOverTwice (problem : Problem) (budget : ℕ) (shifts : List Shift) 
   pub late : IsOver problem shifts (late_part budget)
 
 -- No stage ends: by the usual shifts, by those that an ascent over the uses gives, and by those that one over the arcs gives.
-pub record IsSpent (problem : Problem) (budget : ℕ) (uses_give arcs_give : Option (List Shift) → Type 0) (walks_give : ℕ → Option (List (List ℕ)) → Type 0) : Type 0 where
+pub record IsSpent (problem : Problem) (budget : ℕ) (uses_give arcs_give : Option (List Shift) → Type 0)
+    (walks_give : ℕ → Option (List (List ℕ)) → Type 0) : Type 0 where
   pub usual : IsOver problem (usual problem) budget
   pub uses : GivesOnly uses_give (IsOverTwice problem budget)
   pub arcs : GivesOnly arcs_give (IsSpentByArcs problem (network_part problem budget) walks_give)

@@ -8,11 +8,12 @@ mod network;
 mod optimum;
 mod passing;
 mod selecting;
+mod so_far;
 mod stages;
 mod trying;
 mod walking;
 
 pub use ascents::{ArcAscent, Ascents, Sweeps};
 pub use confirming::confirm;
-pub use laws::problems_have_one_choice;
+pub use laws::{problems_have_one_choice, validities_agree};
 pub use optimum::{Assignment, Optimum, select};

@@ -12,7 +12,7 @@ ghost use Rattle.vd_search.specs.declared.writing.SearchFault.TheVariants as sea
 ghost use Rattle.vd_space.specs.WellFormed.{IsWellFormed};
 
 use crate::ascents::{ArcAscent, Ascents};
-use crate::selecting::Selection;
+use crate::selecting::{Selection, refuted};
 use crate::stages::{network_budget, try_some};
 use crate::trying::Tried;
 use crate::walking::select_by_walk;
@@ -59,12 +59,7 @@ pub(crate) fn network_selection(
             let certificate = network_certificate(alloc, by_arcs, cost, marks)?;
             Ok(Selection::Found(list, cost, certificate))
         }
-        Answer::Empty(marks) => Ok(Selection::NoAssignment(Certificate {
-            cost: None,
-            by_arcs: false,
-            shifts: Items::new(alloc),
-            marks,
-        })),
+        Answer::Empty(marks) => Ok(Selection::NoAssignment(refuted(alloc, marks))),
     }
 }
 

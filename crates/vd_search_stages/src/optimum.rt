@@ -1,7 +1,7 @@
 //! The choice for a problem, by the protocols themselves: below it a search names them by their places in the list of all.
 
 ghost use Rattle.std.specs.Prelude.{◌≡◌, ◌<◌, IfOk, Err, map};
-ghost use Rattle.vd_search_stages.specs.Optimum.{IsOptimum, optimum_of as optimum_at};
+ghost use Rattle.vd_search_stages.specs.Optimum.{IsOptimum, in_form as formed, optimum_of as optimum_at};
 ghost use Rattle.vd_search_stages.specs.Selecting.{IsOver};
 ghost use Rattle.vd_search_stages.specs.Spending.{IsSpent};
 ghost use Rattle.vd_search.specs.declared.writing.SearchFault.TheVariants as search_fault;
@@ -12,6 +12,7 @@ ghost use Rattle.vd_space.specs.WellFormed.{IsWellFormed};
 
 use crate::ascents::Ascents;
 use crate::selecting::Selection;
+use crate::so_far::is_bare;
 use crate::stages::select_places;
 use std::alloc::{AllocError, Global};
 use vd_base::{Proto, protocol_at};
@@ -54,6 +55,23 @@ fn protocols_at(
     Ok(protocols)
 }
 
+/// A certificate that no list is valid, in the third form only where some slot has no candidate.
+fn in_form(
+    alloc: Global,
+    problem: &Problem,
+    certificate: Certificate,
+) -> Result<Certificate, AllocError>
+    requires { IsLabelled problem.now }
+    ensures { IfOk result (λ c. c ≡ formed problem.now certificate) }
+{
+    let list = all_protocols(alloc, problem)?;
+    let by_arcs = is_bare(problem, list.as_slice());
+    Ok(Certificate {
+        by_arcs,
+        ..certificate
+    })
+}
+
 /// What was selected, with the protocols in the place of their places.
 fn optimum_of(alloc: Global, problem: &Problem, selection: Selection) -> Result<Optimum, AllocError>
     requires { IsLabelled problem.now }
@@ -69,7 +87,7 @@ fn optimum_of(alloc: Global, problem: &Problem, selection: Selection) -> Result<
         }
         Selection::NoAssignment(certificate) => Ok(Optimum {
             assignment: None,
-            certificate,
+            certificate: in_form(alloc, problem, certificate)?,
         }),
     }
 }

@@ -5,7 +5,7 @@ ghost use Rattle.std.specs.List.{AllByRecursion};
 ghost use Rattle.vd_base.specs.Limits.{most_certificate_shifts};
 ghost use Rattle.vd_space_prefix.specs.Tables.{AreTables};
 ghost use Rattle.vd_search_stages.specs.Naming.{NamesUse};
-ghost use Rattle.vd_search_stages.specs.Selecting.{CostsAtLeast, IsOver, Selects};
+ghost use Rattle.vd_search_stages.specs.Selecting.{CostsAtLeast, IsOver, Selects, refuted as refuted_by};
 ghost use Rattle.vd_search.specs.declared.writing.SearchFault.TheVariants as search_fault;
 ghost use Rattle.vd_space.specs.Usual.{usual as usual_shifts};
 ghost use Rattle.vd_space.specs.WellFormed.{IsWellFormed};
@@ -26,7 +26,7 @@ use vd_space_tables::tables;
 pub(crate) enum Selection {
     /// The choice, by the places of its protocols in the list; its cost; and a certificate of that.
     Found(Items<u32>, u32, Certificate),
-    /// No list of protocols is valid, as the certificate shows.
+    /// No list of protocols is valid, as the certificate of the third form shows.
     NoAssignment(Certificate),
 }
 
@@ -74,13 +74,20 @@ pub(crate) fn select_by(
             let certificate = least_certificate(alloc, tables, cost, marks)?;
             Ok(Selection::Found(list, cost, certificate))
         }
-        Ok(Answer::Empty(marks)) => Ok(Selection::NoAssignment(Certificate {
-            cost: None,
-            by_arcs: false,
-            shifts: Items::new(alloc),
-            marks,
-        })),
+        Ok(Answer::Empty(marks)) => Ok(Selection::NoAssignment(refuted(alloc, marks))),
         Err(fault) => Err(fault),
+    }
+}
+
+/// The certificate of the third form that no list is valid.
+pub(crate) fn refuted(alloc: Global, marks: Items<Mark>) -> Certificate
+    ensures { result ≡ refuted_by marks }
+{
+    Certificate {
+        cost: None,
+        by_arcs: true,
+        shifts: Items::new(alloc),
+        marks,
     }
 }
 

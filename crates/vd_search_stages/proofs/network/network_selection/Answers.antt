@@ -8,4 +8,4 @@ returns-in_ok-certificate-in-Found c = λ problem budget holds can answers.
 
 pub returns-in-Empty : goal.returns-in-Empty
 returns-in-Empty c = λ problem budget holds can answers.
-    empty problem problem c.args.by_arcs.now budget c.new.result c.in-Empty.marks refl c.new.ensures holds (rw c.in-Empty.is at answers)
+    empty problem problem c.args.by_arcs.now budget c.in-Empty.marks c.refuted.result refl c.refuted.ensures holds (rw c.in-Empty.is at answers)

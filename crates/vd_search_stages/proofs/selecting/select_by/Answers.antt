@@ -9,7 +9,7 @@ returns-in-Ok-Found-clause-selects c =
 
 pub returns-in-Ok-Empty-clause-selects : goal.returns-in-Ok-Empty-clause-selects
 returns-in-Ok-Empty-clause-selects c =
-    empty c.args.problem.now c.in_ok-path.path.problem.now c.in_ok-path.path.tables.now c.args.budget c.new-in-Ok-Empty.result c.in-Ok-Empty.marks c.in_ok-path.ensures.problem c.new-in-Ok-Empty.ensures c.requires.tables.tabled.well_formed.holds
+    empty c.args.problem.now c.in_ok-path.path.problem.now c.in_ok-path.path.tables.now c.args.budget c.in-Ok-Empty.marks c.refuted.result c.in_ok-path.ensures.problem c.refuted.ensures c.requires.tables.tabled.well_formed.holds
     (rw c.in-Ok-Empty.field-0-is at c.in-Ok-Empty.ensures.answer)
 
 pub search_above-requires-clause-floor : goal.search_above-requires-clause-floor
