@@ -163,7 +163,7 @@ pub fn read_ahead<D: Directory + Drop>(
     files: RealFiles<D>,
 ) -> Result<KeptFiles<D>, FetchFault>
     ensures read { IfOk result (λ kept. IsReadAhead (wanted_by (form_of words.now)) (D.fails_at files.directory)
-        (files.faults, kept.files.faults) (D.holds files.directory) (⟦<KeptFiles<D> as Files>⟧.view kept)) }
+        (files.faults, kept.files.faults) D.tells (D.holds files.directory) (⟦<KeptFiles<D> as Files>⟧.view kept)) }
     ensures memory { IfErr result (λ fault. fault ≡ FetchFault.Memory) }
 {
     match files_of_words(alloc, words) {

@@ -1,5 +1,5 @@
 -- What files that were read ahead tell.
-use Rattle.std.proofs.Common.{◌≡◌, true≢false, ℕ, Bool, true, false, ◌&&◌, ◌||◌, List, [], ◌∷◌, ◌++◌, Option, Some, Ok, Err, Result, IfOk, IsErrOf, IsTrue, refl, sym, ◌∙◌, subst}
+use Rattle.std.proofs.Common.{◌≡◌, true≢false, ℕ, Bool, true, false, ◌&&◌, ◌||◌, List, [], ◌∷◌, ◌++◌, Option, Ok, Err, Result, IfOk, IsErrOf, IsTrue, refl, sym, ◌∙◌, subst}
 use Rattle.std.specs.Str.{bytes_eq}
 use Rattle.std.proofs.lemmas.Bool.{cond-false, false_from_ne_true}
 use Rattle.std.proofs.lemmas.Slice.Eq.{bytes_eq-Decides}
@@ -32,23 +32,23 @@ or_left true b is = refl
 or_left false b is = absurd (cc is)
 
 -- a name at which nothing was stored holds what was read there
-not_stored : (calls : List FilesCall) (stores : List (List ℕ × List ℕ)) (contents : Contents) (name : List ℕ)
+not_stored : (calls : List FilesCall) (stores : List (List ℕ × Option (List ℕ))) (contents : Contents) (name : List ℕ)
     → stores_at name calls ≡ false → IsTrue (were_asked calls stores) → after_stores stores contents name ≡ contents name
 not_stored calls [] contents name none asked = refl
 not_stored calls (store ∷ stores) contents name none asked =
     let parts = both (stores_at store.0 calls) (were_asked calls stores) asked in
     let other : bytes_eq store.0 name ≡ false = false_from_ne_true (bytes_eq store.0 name) (λ e.
     true≢false (sym (subst (λ n. stores_at n calls ≡ true) ((bytes_eq-Decides store.0 name).0 e) parts.0) ∙ none)) in
-    cond-false (bytes_eq store.0 name) (Some store.1) (after_stores stores contents name) other ∙ not_stored calls stores contents name none parts.1
+    cond-false (bytes_eq store.0 name) store.1 (after_stores stores contents name) other ∙ not_stored calls stores contents name none parts.1
 
 -- so what answers a fetch of what was read answers a fetch there
-pub gives_kept : (calls : List FilesCall) (stores : List (List ℕ × List ℕ)) (contents : Contents) (name : List ℕ) (limit : ℕ) (result : Result (List ℕ) FetchFault)
+pub gives_kept : (calls : List FilesCall) (stores : List (List ℕ × Option (List ℕ))) (contents : Contents) (name : List ℕ) (limit : ℕ) (result : Result (List ℕ) FetchFault)
     → stores_at name calls ≡ false → IsTrue (were_asked calls stores) → IfOk result (λ bytes. fetched (contents name) limit ≡ Ok bytes)
     → IfOk result (λ bytes. fetched (after_stores stores contents name) limit ≡ Ok bytes)
 gives_kept calls stores contents name limit result none asked gives =
     subst (λ (o : Option (List ℕ)). IfOk result (λ bytes. fetched o limit ≡ Ok bytes)) (sym (not_stored calls stores contents name none asked)) gives
 
-pub too_long_kept : (calls : List FilesCall) (stores : List (List ℕ × List ℕ)) (contents : Contents) (name : List ℕ) (limit : ℕ) (result : Result (List ℕ) FetchFault)
+pub too_long_kept : (calls : List FilesCall) (stores : List (List ℕ × Option (List ℕ))) (contents : Contents) (name : List ℕ) (limit : ℕ) (result : Result (List ℕ) FetchFault)
     → stores_at name calls ≡ false → IsTrue (were_asked calls stores) → (IsErrOf result fetch_fault.TooLong → fetched (contents name) limit ≡ Err fetch_fault.TooLong)
     → IsErrOf result fetch_fault.TooLong → fetched (after_stores stores contents name) limit ≡ Err fetch_fault.TooLong
 too_long_kept calls stores contents name limit result none asked gives is =
@@ -66,19 +66,28 @@ stores_last name (Fetch other ∷ calls) = stores_last name calls
 stores_last name (Store other ∷ calls) = or_right (bytes_eq other name) (stores_at name (calls ++ Store name ∷ [])) (stores_last name calls)
 
 -- stores that were asked stay so where one more call is asked
-pub asked_more : (calls : List FilesCall) (call : FilesCall) (stores : List (List ℕ × List ℕ)) → IsTrue (were_asked calls stores) → IsTrue (were_asked (calls ++ call ∷ []) stores)
+pub asked_more : (calls : List FilesCall) (call : FilesCall) (stores : List (List ℕ × Option (List ℕ))) → IsTrue (were_asked calls stores) → IsTrue (were_asked (calls ++ call ∷ []) stores)
 asked_more calls call [] is = refl
 asked_more calls call (store ∷ stores) is =
     let parts = both (stores_at store.0 calls) (were_asked calls stores) is in
     joined (stores_at store.0 (calls ++ call ∷ [])) (were_asked (calls ++ call ∷ []) stores) (stores_more store.0 calls call parts.0) (asked_more calls call stores parts.1)
 
 -- and so does one that is asked
-pub asked_store : (calls : List FilesCall) (name bytes : List ℕ) (stores : List (List ℕ × List ℕ)) → IsTrue (were_asked calls stores)
-    → IsTrue (were_asked (calls ++ Store name ∷ []) ((name, bytes) ∷ stores))
-asked_store calls name bytes stores is =
+pub asked_store : (calls : List FilesCall) (name : List ℕ) (came : Option (List ℕ)) (stores : List (List ℕ × Option (List ℕ))) → IsTrue (were_asked calls stores)
+    → IsTrue (were_asked (calls ++ Store name ∷ []) ((name, came) ∷ stores))
+asked_store calls name came stores is =
     joined (stores_at name (calls ++ Store name ∷ [])) (were_asked (calls ++ Store name ∷ []) stores) (stores_last name calls) (asked_more calls (Store name) stores is)
 
 -- one more file is as it is held
-pub held_more : (files : List Kept) (file : Kept) (holds : Contents) → AreHeldOf files holds → IsHeldOf file.held (holds file.name) → AreHeldOf (files ++ file ∷ []) holds
-held_more [] file holds are is = (is, tt)
-held_more (first ∷ files) file holds are is = (are.0, held_more files file holds are.1 is)
+pub held_more : (tells : Bool) (files : List Kept) (file : Kept) (holds : Contents) → AreHeldOf tells files holds → IsHeldOf tells file.held (holds file.name)
+    → AreHeldOf tells (files ++ file ∷ []) holds
+held_more tells [] file holds are is = (is, tt)
+held_more tells (first ∷ files) file holds are is = (are.0, held_more tells files file holds are.1 is)
+
+-- so it is in the words of a store
+pub asked_by : (calls now : List FilesCall) (call_name name noted : List ℕ) (came : Option (List ℕ)) (stores pairs : List (List ℕ × Option (List ℕ))) → now ≡ calls ++ Store call_name ∷ [] → call_name ≡ name
+    → pairs ≡ (noted, came) ∷ stores → noted ≡ name → IsTrue (were_asked calls stores) → IsTrue (were_asked now pairs)
+asked_by calls now call_name name noted came stores pairs more called noted_is named is =
+    subst (λ (p : List (List ℕ × Option (List ℕ))). IsTrue (were_asked now p)) (sym noted_is)
+    (subst (λ (k : List FilesCall). IsTrue (were_asked k ((noted, came) ∷ stores))) (sym more)
+    (subst (λ (n : List ℕ). IsTrue (were_asked (calls ++ Store n ∷ []) ((noted, came) ∷ stores))) (named ∙ sym called) (asked_store calls noted came stores is)))

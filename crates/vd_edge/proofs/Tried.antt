@@ -97,11 +97,11 @@ pub tried_all : (wanted : List Wanted) (place : ℕ) (read : List Kept) (unread 
 tried_all wanted place read unread all tried = subst (λ files. AreTried files read unread) (take_all place wanted all) tried
 
 -- a file that was read joins those that are held
-pub read_is_held : (read now : List Kept) (file : Kept) (asked : List ℕ) (came : Option Held) (holds : Contents) → now ≡ read ++ file ∷ [] → asked ≡ file.name → came ≡ Some file.held
-    → IfSome came (λ held. IsHeldOf held (holds asked)) → AreHeldOf read holds → AreHeldOf now holds
-read_is_held read now file asked came holds more same is held are =
-    subst (λ files. AreHeldOf files holds) (sym more)
-    (held_more read file holds are (subst (λ n. IsHeldOf file.held (holds n)) same (subst (λ c. IfSome c (λ held. IsHeldOf held (holds asked))) is held)))
+pub read_is_held : (tells : Bool) (read now : List Kept) (file : Kept) (asked : List ℕ) (came : Option Held) (holds : Contents) → now ≡ read ++ file ∷ [] → asked ≡ file.name → came ≡ Some file.held
+    → IfSome came (λ held. IsHeldOf tells held (holds asked)) → AreHeldOf tells read holds → AreHeldOf tells now holds
+read_is_held tells read now file asked came holds more same is held are =
+    subst (λ files. AreHeldOf tells files holds) (sym more)
+    (held_more tells read file holds are (subst (λ n. IsHeldOf tells file.held (holds n)) same (subst (λ c. IfSome c (λ held. IsHeldOf tells held (holds asked))) is held)))
 
 -- and is tried, under its name
 pub read_is_tried : (read now : List Kept) (unread : List Unread) (file : Kept) (name : List ℕ) → now ≡ read ++ file ∷ [] → file.name ≡ name → IsTrue (is_tried now unread name)

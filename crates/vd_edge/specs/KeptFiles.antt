@@ -1,6 +1,7 @@
 -- Files that were read ahead of a run: what they tell.
-use Rattle.std.specs.Prelude.{◌≡◌, ◌<◌, ◌≤◌, ℕ, ◌+◌, ◌-◌, ◌^◌, min, Bool, true, false, nat_lt, ◌&&◌, ◌||◌, IsTrue, List, [], ◌∷◌, ◌++◌, length, Option, Some, None, is_some, ⊤, replicate, if◌then◌else◌}
+use Rattle.std.specs.Prelude.{◌≡◌, ◌<◌, ◌≤◌, ℕ, ◌+◌, ◌-◌, ◌^◌, min, Bool, true, false, not, nat_lt, ◌&&◌, ◌||◌, IsTrue, List, [], ◌∷◌, ◌++◌, length, codes, nat_eq, Option, Some, None, is_some, ⊤, replicate, if◌then◌else◌}
 use Rattle.std.specs.List.{All}
+use Rattle.std.specs.List.{starts_with}
 use Rattle.std.specs.Str.{bytes_eq}
 use Rattle.vd_outside.specs.Files.{Contents, FilesView, with_content}
 use Rattle.vd_outside.specs.declared.files.FilesCall.{FilesCall}
@@ -32,10 +33,14 @@ abbrev pub is_unanswered : List Kept → List ℕ → ℕ → Bool
 is_unanswered [] name limit = true
 is_unanswered (file ∷ files) name limit = if bytes_eq file.name name then is_unknown file.held limit else is_unanswered files name limit
 
--- the same after these stores, the last of which stands first
-abbrev pub after_stores : List (List ℕ × List ℕ) → Contents → Contents
+-- what stands at each name ahead of a run: what the directory held there, where it tells that, and else what was read
+abbrev pub stood : (tells : Bool) (held : Contents) (read : List Kept) → Contents
+stood tells held read = if tells then held else as_read read
+
+-- the same after these stores, the last of which stands first; after one that failed nothing is told of its name
+abbrev pub after_stores : List (List ℕ × Option (List ℕ)) → Contents → Contents
 after_stores [] contents = contents
-after_stores (store ∷ stores) contents = with_content (after_stores stores contents) store.0 (Some store.1)
+after_stores (store ∷ stores) contents = with_content (after_stores stores contents) store.0 store.1
 
 -- whether one of these calls stores at a name
 abbrev pub stores_at : List ℕ → List FilesCall → Bool
@@ -44,24 +49,52 @@ stores_at name (Fetch other ∷ calls) = stores_at name calls
 stores_at name (Store other ∷ calls) = bytes_eq other name || stores_at name calls
 
 -- each of these stores was asked
-abbrev pub were_asked : List FilesCall → List (List ℕ × List ℕ) → Bool
+abbrev pub were_asked : List FilesCall → List (List ℕ × Option (List ℕ)) → Bool
 were_asked calls [] = true
 were_asked calls (store ∷ stores) = stores_at store.0 calls && were_asked calls stores
 
--- they tell all: what was read, with what was stored since in its place, the calls, and how often they have failed
-abbrev pub kept_view : List Kept → List FilesCall → List (List ℕ × List ℕ) → ℕ → FilesView
-kept_view kept asked stores faults = record { told = true; contents = after_stores stores (as_read kept); asked = asked; faults = faults }
+-- whether a store at this name or beside it failed, so that what stands at a name is open
+abbrev pub is_open_by : List ℕ × Option (List ℕ) → List ℕ → Bool
+is_open_by store name = not (is_some store.1) && (bytes_eq store.0 name || starts_with nat_eq name (store.0 ++ codes ".tmp-"))
 
--- what was read is what stood there, where that is known
-abbrev pub IsHeldOf : Held → Option (List ℕ) → Type 0
-IsHeldOf held None = ⊤
-IsHeldOf (Whole bytes) (Some all) = bytes ≡ all
-IsHeldOf (Longer most) (Some all) = most < length all
+abbrev pub is_open : List (List ℕ × Option (List ℕ)) → List ℕ → Bool
+is_open [] name = false
+is_open (store ∷ stores) name = is_open_by store name || is_open stores name
+
+-- each file that is told stands whole on the disk
+abbrev pub StandWhole : (told disk : Contents) → Type 0
+StandWhole told disk = (name bytes : List ℕ) → told name ≡ Some bytes → disk name ≡ Some bytes
+
+-- and nothing else does, but where a store failed
+abbrev pub StandAlone : List (List ℕ × Option (List ℕ)) → (told disk : Contents) → Type 0
+StandAlone stores told disk = (name : List ℕ) → is_open stores name ≡ false → disk name ≡ told name
+
+-- They tell all: what stood there, with what was stored since in its place, the calls, and how often they have failed. Of a
+-- directory that tells what it holds, that is what it held.
+abbrev pub kept_view : (tells : Bool) (held : Contents) → List Kept → List FilesCall → List (List ℕ × Option (List ℕ)) → ℕ → FilesView
+kept_view tells held read asked stores faults =
+    record { told = true; contents = after_stores stores (stood tells held read); asked = asked; faults = faults }
+
+-- what was read is what stood there, where that is known; a directory that tells what it holds gives no file that is not there
+abbrev pub IsHeldOf : (tells : Bool) → Held → Option (List ℕ) → Type 0
+IsHeldOf tells held None = tells ≡ false
+IsHeldOf tells (Whole bytes) (Some all) = bytes ≡ all
+IsHeldOf tells (Longer most) (Some all) = most < length all
 
 -- so it is with each of these files
-abbrev pub AreHeldOf : List Kept → Contents → Type 0
-AreHeldOf [] holds = ⊤
-AreHeldOf (file ∷ files) holds = IsHeldOf file.held (holds file.name) × AreHeldOf files holds
+abbrev pub AreHeldOf : (tells : Bool) → List Kept → Contents → Type 0
+AreHeldOf tells [] holds = ⊤
+AreHeldOf tells (file ∷ files) holds = IsHeldOf tells file.held (holds file.name) × AreHeldOf tells files holds
+
+-- whether what was read is what stands there
+abbrev pub is_held_at : Held → Option (List ℕ) → Bool
+is_held_at held None = false
+is_held_at (Whole bytes) (Some all) = bytes_eq bytes all
+is_held_at (Longer most) (Some all) = nat_lt most (length all)
+
+abbrev pub are_held_at : List Kept → Contents → Bool
+are_held_at [] holds = true
+are_held_at (file ∷ files) holds = is_held_at file.held (holds file.name) && are_held_at files holds
 
 -- whether one of these files has this name
 abbrev pub is_unread : List Unread → List ℕ → Bool
@@ -93,13 +126,14 @@ AreFailed fails_at (file ∷ files) = fails_at file.name × AreFailed fails_at f
 abbrev pub AreFaults : List Unread → (before now : ℕ) → Type 0
 AreFaults unread before now = min (before + length unread) (2 ^ 64 - 1) ≤ now
 
--- These files were read ahead, and nothing else was asked of them so far. What was kept is what stood there, where that is known; each
--- that is not kept could not be read, and was a fault of the files below, whose count went from one number to another.
-pub record IsReadAhead (wanted : List Wanted) (fails_at : List ℕ → Type 0) (faults : ℕ × ℕ) (holds : Contents) (view : FilesView) : Type 0 where
+-- These files were read ahead, and nothing else was asked of them so far. They tell what stood there. What was kept is that, where it is
+-- known; each that is not kept could not be read, and was a fault of the files below, whose count went from one number to another.
+pub record IsReadAhead (wanted : List Wanted) (fails_at : List ℕ → Type 0) (faults : ℕ × ℕ) (tells : Bool) (holds : Contents)
+    (view : FilesView) : Type 0 where
   pub read : List Kept
   pub unread : List Unread
-  pub held : AreHeldOf read holds
+  pub held : AreHeldOf tells read holds
   pub tried : AreTried wanted read unread
   pub failed : AreFailed fails_at unread
   pub counted : AreFaults unread faults.0 faults.1
-  pub told : view ≡ kept_view read [] [] 0
+  pub told : view ≡ kept_view tells holds read [] [] 0

@@ -1,4 +1,4 @@
-ghost use Rattle.std.specs.Prelude.{◌≡◌, ℕ, Bool, IsTrue, List, Option, None, Some, false, take, IfOk, OnOk, OnErr, IfSome, ⊤};
+ghost use Rattle.std.specs.Prelude.{◌≡◌, ℕ, Bool, IsTrue, List, Option, None, Some, false, take, IfOk, OnOk, OnErr, IfSome, is_some, ⊤};
 ghost use Rattle.vd_edge.specs.Store.{Moves, Same, SameElse, is_replaced};
 
 use crate::files::read_front;
@@ -17,6 +17,9 @@ pub trait Directory {
     /// What stands at a name, where that is known.
     ghost holds: { Self → List ℕ → Option (List ℕ) };
 
+    /// What stood at a name when the run began.
+    ghost began: { Self → List ℕ → Option (List ℕ) };
+
     /// Whether nothing or a plain file stands at a name, so that another file can take its place.
     ghost replaces: { Self → List ℕ → Bool };
 
@@ -26,12 +29,19 @@ pub trait Directory {
     /// The file at a name was to be read, and that failed.
     ghost fails_at: { Self → List ℕ → Type 0 };
 
+    /// The run begins, as clauses read it: what stands now is what stood then.
+    fn begin(&mut self)
+        ensures begun { began self.new ≡ holds self.old }
+        ensures same { holds self.new ≡ holds self.old }
+        ensures failures { (name : List ℕ) → fails_at self.new name → fails_at self.old name };
+
     /// A number that no other process has while this one runs.
     fn mark(&self) -> u32;
 
     /// A prefix of the file with this name: so many bytes of it, or all where it has no more.
     fn read(&self, alloc: Global, name: &str, most: u64) -> io::Result<Vec<u8>>
         ensures front { IfOk result (λ bytes. IfSome (holds self.now name.now) (λ all. bytes.items ≡ take most all)) }
+        ensures found { OnOk result (IsTrue tells → IsTrue (is_some (holds self.now name.now))) }
         ensures failed { OnErr result (fails_at self.now name.now) };
 
     /// What stands at a name. A plain file that may not be written is an error.
@@ -41,33 +51,39 @@ pub trait Directory {
     /// Puts all these bytes at a name, in place of what stood there.
     fn write(&mut self, name: &str, bytes: &[u8]) -> io::Result<()>
         ensures all { OnOk result (IsTrue tells → holds self.new name.now ≡ Some bytes.now) }
-        ensures others { IsTrue tells → SameElse name.now (holds self.old) (holds self.new) };
+        ensures others { IsTrue tells → SameElse name.now (holds self.old) (holds self.new) }
+        ensures begun { began self.new ≡ began self.old };
 
     /// Makes a file at a name at which nothing stands. Where something stands there, that is an error.
     fn create(&mut self, name: &str, access: Access) -> io::Result<()>
         ensures free { OnOk result (IsTrue tells → holds self.old name.now ≡ None) }
         ensures others { OnOk result (IsTrue tells → SameElse name.now (holds self.old) (holds self.new)) }
-        ensures kept { OnErr result (IsTrue tells → Same (holds self.old) (holds self.new)) };
+        ensures kept { OnErr result (IsTrue tells → Same (holds self.old) (holds self.new)) }
+        ensures begun { began self.new ≡ began self.old };
 
     /// Puts all these bytes into the file at a name, and waits until the disk has them.
     fn fill(&mut self, name: &str, bytes: &[u8], access: Access) -> io::Result<()>
         ensures all { OnOk result (IsTrue tells → holds self.new name.now ≡ Some bytes.now) }
-        ensures others { IsTrue tells → SameElse name.now (holds self.old) (holds self.new) };
+        ensures others { IsTrue tells → SameElse name.now (holds self.old) (holds self.new) }
+        ensures begun { began self.new ≡ began self.old };
 
     /// Gives the file at a name another one, in place of what stood there. It is done in one step or not at all.
     fn rename(&mut self, from: &str, to: &str) -> io::Result<()>
         ensures moves { OnOk result (IsTrue tells → Moves from.now to.now (holds self.old) (holds self.new)) }
-        ensures kept { OnErr result (IsTrue tells → Same (holds self.old) (holds self.new)) };
+        ensures kept { OnErr result (IsTrue tells → Same (holds self.old) (holds self.new)) }
+        ensures begun { began self.new ≡ began self.old };
 
     /// Removes the file at a name.
     fn remove(&mut self, name: &str) -> io::Result<()>
         ensures gone { OnOk result (IsTrue tells → holds self.new name.now ≡ None) }
-        ensures others { IsTrue tells → SameElse name.now (holds self.old) (holds self.new) };
+        ensures others { IsTrue tells → SameElse name.now (holds self.old) (holds self.new) }
+        ensures begun { began self.new ≡ began self.old };
 
     /// Waits until the disk has the names in the folder of this one.
     fn settle(&mut self, name: &str) -> io::Result<()>
         ensures same { IsTrue tells → Same (holds self.old) (holds self.new) }
-        ensures asked { settles self.new name.now };
+        ensures asked { settles self.new name.now }
+        ensures begun { began self.new ≡ began self.old };
 }
 
 /// The files of a runtime. What they hold is not known.
@@ -115,11 +131,15 @@ impl<R: Disk + Drop> Directory for SystemDirectory<R> {
 
     ghost holds = { λ directory name. None };
 
+    ghost began = { λ directory name. None };
+
     ghost replaces = { λ directory name. false };
 
     ghost settles = { λ directory name. ⊤ };
 
     ghost fails_at = { λ directory name. ⊤ };
+
+    fn begin(&mut self) {}
 
     fn mark(&self) -> u32 {
         self.mark

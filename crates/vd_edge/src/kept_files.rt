@@ -1,5 +1,6 @@
-ghost use Rattle.std.specs.Prelude.{◌≡◌, ◌≤◌, ℕ, [], Some, None, OnOk, OnErr, ◌||◌, IsTrue, IfSome, IfOk, IfErr, IsErrOf, is_some};
-ghost use Rattle.vd_edge.specs.KeptFiles.{AreFailed, AreFaults, AreHeldOf, AreTried, IsHeldOf, IsReadAhead, NotesUnread, StillTried, as_read, after_stores, content, is_tried, is_unanswered, is_unknown, kept_view, stores_at, were_asked};
+ghost use Rattle.std.specs.Prelude.{◌≡◌, ◌≤◌, ℕ, [], false, Some, None, OnOk, OnErr, ◌||◌, IsTrue, IfSome, IfOk, IfErr, IsErrOf, is_some};
+ghost use Rattle.vd_edge.specs.KeptFiles.{AreFailed, AreFaults, AreHeldOf, AreTried, IsHeldOf, IsReadAhead, NotesUnread, StandAlone, StandWhole, StillTried, after_stores, are_held_at, as_read, content, is_tried, is_unanswered, is_unknown, kept_view, stood, stores_at, were_asked};
+ghost use Rattle.std.proofs.Props.{props};
 ghost use Rattle.vd_outside.specs.Causes.{Rose};
 ghost use Rattle.vd_edge.specs.Store.{MayLeave, SameElse};
 ghost use Rattle.vd_outside.specs.Files.{Fetches, Stores as StoresAt, fetched};
@@ -27,6 +28,15 @@ pub struct KeptFiles<D: Directory + Drop> {
     faults: u64,
     reason: Option<Text>,
     ghost known: { IsTrue (were_asked asked stores.pairs) },
+
+    // Where the directory tells what it holds, what was read is what stood there, and what is told is what stands there now.
+    ghost held: { IsTrue D.tells → IsTrue (are_held_at kept (D.began files.directory)) },
+    ghost whole: { IsTrue D.tells →
+        StandWhole (after_stores stores.pairs (stood D.tells (D.began files.directory) kept))
+        (D.holds files.directory) } by { Prim.hlevel props },
+    ghost alone: { IsTrue D.tells →
+        StandAlone stores.pairs (after_stores stores.pairs (stood D.tells (D.began files.directory) kept))
+        (D.holds files.directory) } by { Prim.hlevel props },
 }
 
 /// The bytes of a file that was read, if they are no more than the limit. Of one that is longer than was asked when it was
@@ -35,6 +45,8 @@ fn bytes_within(alloc: Global, held: &Held, limit: u32) -> Result<Bytes, FetchFa
     ensures gives { IfOk result (λ bytes. fetched (Some (content held.now)) limit ≡ Ok bytes) }
     ensures too_long { IsErrOf result fetch_fault.TooLong → fetched (Some (content held.now)) limit ≡ Err fetch_fault.TooLong }
     ensures unknown { IsErrOf result fetch_fault.Failed → IsTrue (is_unknown held.now limit) }
+    ensures known { OnOk result (is_unknown held.now limit ≡ false) }
+    ensures known_long { IsErrOf result fetch_fault.TooLong → is_unknown held.now limit ≡ false }
 {
     match held {
         Held::Whole(bytes) if bytes.as_slice().len() <= limit as usize => {
@@ -52,6 +64,8 @@ fn fetch_kept(alloc: Global, kept: &[Kept], name: &str, limit: u32) -> Result<By
     ensures gives { IfOk result (λ bytes. fetched (as_read kept.now name.now) limit ≡ Ok bytes) }
     ensures too_long { IsErrOf result fetch_fault.TooLong → fetched (as_read kept.now name.now) limit ≡ Err fetch_fault.TooLong }
     ensures unanswered { IsErrOf result fetch_fault.Failed → IsTrue (is_unanswered kept.now name.now limit) }
+    ensures answered { OnOk result (is_unanswered kept.now name.now limit ≡ false) }
+    ensures answered_long { IsErrOf result fetch_fault.TooLong → is_unanswered kept.now name.now limit ≡ false }
 {
     for file in kept {
         if file.name.as_str().as_bytes() == name.as_bytes() {
@@ -93,7 +107,7 @@ fn held_of<D: Directory + Drop>(
     name: &str,
     most: u32,
 ) -> Result<Option<Held>, FetchFault>
-    ensures held { IfOk result (λ came. IfSome came (λ held. IsHeldOf held (D.holds files.old.directory name.now))) }
+    ensures held { IfOk result (λ came. IfSome came (λ held. IsHeldOf D.tells held (D.holds files.old.directory name.now))) }
     ensures later { files.old.faults ≤ files.new.faults }
     ensures rose { IfOk result (λ came. came ≡ None → Rose files.old.faults files.new.faults) }
     ensures failed { IfOk result (λ came. came ≡ None → D.fails_at files.old.directory name.now) }
@@ -150,7 +164,8 @@ fn keep<D: Directory + Drop>(
     reading: &mut Reading,
     file: &Wanted,
 ) -> Result<(), FetchFault>
-    ensures held { AreHeldOf reading.old.kept (D.holds files.old.directory) → AreHeldOf reading.new.kept (D.holds files.old.directory) }
+    ensures held { AreHeldOf D.tells reading.old.kept (D.holds files.old.directory) →
+        AreHeldOf D.tells reading.new.kept (D.holds files.old.directory) }
     ensures tried { OnOk result (IsTrue (is_tried reading.new.kept reading.new.unread file.now.name)) }
     ensures before { OnOk result (StillTried reading.old reading.new) }
     ensures counted { OnOk result ((first : ℕ) → AreFaults reading.old.unread first files.old.faults →
@@ -178,10 +193,11 @@ fn read_all<D: Directory + Drop>(
     files: &mut RealFiles<D>,
     wanted: &[Wanted],
 ) -> Result<Reading, FetchFault>
-    ensures held { IfOk result (λ reading. AreHeldOf reading.kept (D.holds files.old.directory)) }
+    ensures held { IfOk result (λ reading. AreHeldOf D.tells reading.kept (D.holds files.old.directory)) }
     ensures tried { IfOk result (λ reading. AreTried wanted.now reading.kept reading.unread) }
     ensures counted { IfOk result (λ reading. AreFaults reading.unread files.old.faults files.new.faults) }
     ensures failed { IfOk result (λ reading. AreFailed (D.fails_at files.old.directory) reading.unread) }
+    ensures same { OnOk result (files.new.directory ≡ files.old.directory) }
     ensures memory { IfErr result (λ fault. fault ≡ fetch_fault.Memory) }
 {
     let mut reading = Reading {
@@ -203,10 +219,12 @@ impl<D: Directory + Drop> KeptFiles<D> {
         wanted: &[Wanted],
     ) -> Result<KeptFiles<D>, FetchFault>
         ensures read { IfOk result (λ it. IsReadAhead wanted.now (D.fails_at files.directory) (files.faults, it.files.faults)
-            (D.holds files.directory) (kept_view it.kept it.asked it.stores.pairs it.faults)) }
+            D.tells (D.holds files.directory)
+            (kept_view D.tells (D.began it.files.directory) it.kept it.asked it.stores.pairs it.faults)) }
         ensures memory { IfErr result (λ fault. fault ≡ fetch_fault.Memory) }
     {
         let mut files = files;
+        files.begin();
         let Reading { kept, unread } = read_all(alloc, &mut files, wanted)?;
         Ok(KeptFiles {
             files,
@@ -229,12 +247,13 @@ impl<D: Directory + Drop> KeptFiles<D> {
     }
 
     /// The answer to a fetch.
-    #[tactic(auto, using(crate::proofs::Ahead::gives_kept, crate::proofs::Ahead::too_long_kept))]
     fn answer(&self, name: &str, limit: u32) -> Result<Bytes, FetchFault>
         ensures gives { IfOk result (λ bytes.
-            fetched (after_stores self.now.stores.pairs (as_read self.now.kept) name.now) limit ≡ Ok bytes) }
+            fetched (after_stores self.now.stores.pairs (stood D.tells (D.began self.now.files.directory) self.now.kept) name.now)
+            limit ≡ Ok bytes) }
         ensures too_long { IsErrOf result fetch_fault.TooLong →
-            fetched (after_stores self.now.stores.pairs (as_read self.now.kept) name.now) limit ≡ Err fetch_fault.TooLong }
+            fetched (after_stores self.now.stores.pairs (stood D.tells (D.began self.now.files.directory) self.now.kept) name.now)
+            limit ≡ Err fetch_fault.TooLong }
         ensures unanswered { IsErrOf result fetch_fault.Failed →
             IsTrue (stores_at name.now self.now.asked || is_unanswered self.now.kept name.now limit) }
     {
@@ -246,7 +265,8 @@ impl<D: Directory + Drop> KeptFiles<D> {
 }
 
 impl<D: Directory + Drop> Files for KeptFiles<D> {
-    ghost view = { λ files. kept_view files.kept files.asked files.stores.pairs files.faults };
+    ghost view = { λ files.
+        kept_view D.tells (D.began files.files.directory) files.kept files.asked files.stores.pairs files.faults };
 
     fn faults(&self) -> u64 {
         self.faults
@@ -254,8 +274,10 @@ impl<D: Directory + Drop> Files for KeptFiles<D> {
 
     #[tactic(auto, using(crate::proofs::Ahead::asked_more))]
     fn fetch(&mut self, name: &str, limit: u32) -> Result<Bytes, FetchFault>
-        ensures fetches { Fetches name.now limit (kept_view self.old.kept self.old.asked self.old.stores.pairs self.old.faults)
-            (kept_view self.new.kept self.new.asked self.new.stores.pairs self.new.faults) result }
+        ensures fetches { Fetches name.now limit
+            (kept_view D.tells (D.began self.old.files.directory) self.old.kept self.old.asked self.old.stores.pairs self.old.faults)
+            (kept_view D.tells (D.began self.new.files.directory) self.new.kept self.new.asked self.new.stores.pairs self.new.faults)
+            result }
         ensures unanswered { IsErrOf result fetch_fault.Failed →
             IsTrue (stores_at name.now self.old.asked || is_unanswered self.old.kept name.now limit) }
     {
@@ -272,10 +294,12 @@ impl<D: Directory + Drop> Files for KeptFiles<D> {
         answer
     }
 
-    #[tactic(auto, using(crate::proofs::Ahead::asked_store))]
+    #[tactic(auto, using(crate::proofs::Ahead::asked_store, crate::proofs::Disk::held_still, crate::proofs::Disk::whole_same, crate::proofs::Disk::alone_same))]
     fn store(&mut self, name: &str, bytes: &[u8]) -> Result<(), CallFault>
-        ensures stores { StoresAt name.now bytes.now (kept_view self.old.kept self.old.asked self.old.stores.pairs self.old.faults)
-            (kept_view self.new.kept self.new.asked self.new.stores.pairs self.new.faults) result }
+        ensures stores { StoresAt name.now bytes.now
+            (kept_view D.tells (D.began self.old.files.directory) self.old.kept self.old.asked self.old.stores.pairs self.old.faults)
+            (kept_view D.tells (D.began self.new.files.directory) self.new.kept self.new.asked self.new.stores.pairs self.new.faults)
+            result }
         ensures all { OnOk result (IsTrue D.tells → D.holds self.new.files.directory name.now ≡ Some bytes.now) }
         ensures kept { OnErr result (IsTrue D.tells → IsTrue (D.replaces self.old.files.directory name.now) →
             D.holds self.new.files.directory name.now ≡ D.holds self.old.files.directory name.now) }
@@ -293,7 +317,7 @@ impl<D: Directory + Drop> Files for KeptFiles<D> {
                 Ok(())
             }
             Err(CallFault::Failed) => {
-                self.stores.note(name.as_bytes(), bytes);
+                self.stores.fail(name.as_bytes());
                 self.faults = self.faults.saturating_add(1);
                 self.reason = copied(self.alloc, self.files.reason());
                 Err(CallFault::Failed)

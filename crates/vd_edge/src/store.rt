@@ -1,14 +1,25 @@
-ghost use Rattle.std.specs.Prelude.{◌≡◌, ℕ, List, IsTrue, IfOk, OnOk, OnErr, None, Some, false, string_bytes};
+ghost use Rattle.std.specs.Prelude.{◌≡◌, ◌≢◌, ◌⊎◌, ℕ, List, IsTrue, IfOk, IfErr, OnOk, OnErr, None, Some, false, string_bytes};
 ghost use Rattle.std.specs.Str.{bytes_eq};
+ghost use Rattle.std_io.specs.IoError.{error_kind};
 ghost use Rattle.vd_edge.specs.Store.{IsBeside, MayLeave, Same, SameElse};
 
 use crate::standing::access_of;
 use crate::{Access, Directory};
 use std::alloc::Global;
-use std::io::{self, ErrorKind};
+use std::io::{self, Error, ErrorKind};
 
 /// How many files that other stores left over are passed over.
 const MOST_PASSED: u32 = 8;
+
+/// The error of a call that may have changed something: where memory ran out in it, that is a fault of the outside.
+fn by_outside(error: Error) -> Error
+    ensures { error_kind result ≢ ErrorKind.OutOfMemory }
+{
+    match error.kind() {
+        ErrorKind::OutOfMemory => Error::from(ErrorKind::Other),
+        _ => error,
+    }
+}
 
 /// Puts these bytes at a name. What can be replaced is replaced whole by a new file or stays as it was; all else is written in
 /// place.
@@ -23,11 +34,17 @@ pub(crate) fn put<D: Directory>(
         D.holds directory.new name.now ≡ D.holds directory.old name.now) }
     ensures left { IsTrue D.tells → MayLeave name.now (D.holds directory.old) (D.holds directory.new) }
     ensures others { OnOk result (IsTrue D.tells → SameElse name.now (D.holds directory.old) (D.holds directory.new)) }
+    ensures memory { IfErr result (λ error. (error_kind error ≢ ErrorKind.OutOfMemory)
+        ⊎ (IsTrue D.tells → Same (D.holds directory.old) (D.holds directory.new))) }
+    ensures begun { D.began directory.new ≡ D.began directory.old }
 {
     let standing = directory.standing(name)?;
     match access_of(standing, bytes) {
         Some(access) => replace(directory, alloc, name, bytes, access),
-        None => directory.write(name, bytes),
+        None => match directory.write(name, bytes) {
+            Ok(()) => Ok(()),
+            Err(error) => Err(by_outside(error)),
+        },
     }
 }
 
@@ -43,16 +60,19 @@ fn replace<D: Directory>(
     ensures kept { OnErr result (IsTrue D.tells → D.holds directory.new name.now ≡ D.holds directory.old name.now) }
     ensures left { IsTrue D.tells → MayLeave name.now (D.holds directory.old) (D.holds directory.new) }
     ensures others { OnOk result (IsTrue D.tells → SameElse name.now (D.holds directory.old) (D.holds directory.new)) }
+    ensures memory { IfErr result (λ error. (error_kind error ≢ ErrorKind.OutOfMemory)
+        ⊎ (IsTrue D.tells → Same (D.holds directory.old) (D.holds directory.new))) }
+    ensures begun { D.began directory.new ≡ D.began directory.old }
     ensures settled { OnOk result (D.settles directory.new name.now) }
 {
     let new = create_beside(directory, alloc, name, access)?;
     match fill_and_move(directory, new.as_str(), name, bytes, access) {
         Ok(()) => Ok(()),
-        Err(error) => {
-            // Where it cannot be removed, it is left over.
-            let _ = directory.remove(new.as_str());
-            Err(error)
-        }
+        Err(error) => match directory.remove(new.as_str()) {
+            Ok(()) => Err(error),
+            // It is left over.
+            Err(_) => Err(by_outside(error)),
+        },
     }
 }
 
@@ -67,6 +87,7 @@ fn create_beside<D: Directory>(
     ensures free { IfOk result (λ new. IsTrue D.tells → D.holds directory.old (string_bytes new) ≡ None) }
     ensures others { IfOk result (λ new. IsTrue D.tells → SameElse (string_bytes new) (D.holds directory.old) (D.holds directory.new)) }
     ensures kept { OnErr result (IsTrue D.tells → Same (D.holds directory.old) (D.holds directory.new)) }
+    ensures begun { D.began directory.new ≡ D.began directory.old }
 {
     let mark = directory.mark();
     for number in 0..MOST_PASSED {
@@ -94,6 +115,7 @@ fn fill_and_move<D: Directory>(
     ensures others { OnOk result (IsTrue D.tells → (other : List ℕ) → bytes_eq new.now other ≡ false → bytes_eq name.now other ≡ false →
         D.holds directory.new other ≡ D.holds directory.old other) }
     ensures kept { OnErr result (IsTrue D.tells → SameElse new.now (D.holds directory.old) (D.holds directory.new)) }
+    ensures begun { D.began directory.new ≡ D.began directory.old }
     ensures settled { OnOk result (D.settles directory.new name.now) }
 {
     directory.fill(new, bytes, access)?;

@@ -47,11 +47,15 @@ impl Directory for Shelf {
 
     ghost holds = { λ shelf name. None };
 
+    ghost began = { λ shelf name. None };
+
     ghost replaces = { λ shelf name. false };
 
     ghost settles = { λ shelf name. ⊤ };
 
     ghost fails_at = { λ shelf name. ⊤ };
+
+    fn begin(&mut self) {}
 
     fn mark(&self) -> u32 {
         7

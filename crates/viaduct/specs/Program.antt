@@ -1,11 +1,11 @@
 -- What the program does, whatever objects it is given.
-use Rattle.std.specs.Prelude.{◌≡◌, ◌⊎◌, ℕ, List, Option, None, Some, Result}
+use Rattle.std.specs.Prelude.{◌≡◌, ◌⊎◌, ℕ, Bool, IsTrue, List, Option, None, IfSome, Result, is_some}
 use Rattle.vd_outside.specs.Files.{Contents, FilesView}
 use Rattle.vd_outside_marks.specs.Marks.{MarksView}
 use Rattle.vd_outside.specs.Sink.{SinkView}
 use Rattle.vd_outside.specs.Spawner.{SpawnerView}
 use Rattle.vd_cmd.specs.Commands.{form_of}
-use Rattle.vd_edge.specs.KeptFiles.{IsReadAhead}
+use Rattle.vd_edge.specs.KeptFiles.{IsReadAhead, StandAlone, StandWhole, were_asked}
 use Rattle.vd_cmd_host.specs.Hosts.{NetsView}
 use Rattle.vd_cmd_plan.specs.Lines.{Says, code_of, status_line}
 use Rattle.vd_cmd_plan.specs.declared.status.Status.{Status}
@@ -58,14 +58,30 @@ pub record WantsMemory (o : Streams) (code : ℕ) (whom : Named) : Type 0 where
   pub ends : code ≡ code_of Memory
   pub named : whom ≡ Nobody
 
--- The command line was run over the files that it may fetch, each of which was read ahead, or a read of it failed.
-pub record IsRunOver (destination : Destination) (words : List (List ℕ)) (fails_at : List ℕ → Type 0) (holds : Contents) (o : Streams) (code : ℕ) (whom : Named) : Type 0 where
+-- What a directory holds after a run is what the files told last: each file whole, and nothing else, but at and beside the name of a store
+-- that was asked and failed.
+pub record IsOnDisk (last : FilesView) (disk : Contents) : Type 0 where
+  pub stores : List (List ℕ × Option (List ℕ))
+  pub asked : IsTrue (were_asked last.asked stores)
+  pub whole : StandWhole last.contents disk
+  pub alone : StandAlone stores last.contents disk
+
+-- The command line was run over the files that it may fetch, each of which was read ahead, or a read of it failed. What the directory
+-- held before is what the files told first, where it tells that, and what it holds afterwards is what they told last.
+pub record IsRunOver (destination : Destination) (words : List (List ℕ)) (fails_at : List ℕ → Type 0) (tells : Bool) (holds : Contents)
+    (after : Option Contents) (o : Streams) (code : ℕ) (whom : Named) : Type 0 where
   pub read : FilesView
   pub last : FilesView
   pub faults : ℕ × ℕ
-  pub ahead : IsReadAhead (wanted_by (form_of words)) fails_at faults holds read
-  pub run : IsRun destination words (record { files = (read, last); out = o.out; err = o.err; marks = o.marks; nets = o.nets; spawner = o.spawner; packets = (None, o.packets) }) code whom
+  pub ahead : IsReadAhead (wanted_by (form_of words)) fails_at faults tells holds read
+  pub run : IsRun destination words
+      (record { files = (read, last); out = o.out; err = o.err; marks = o.marks; nets = o.nets; spawner = o.spawner; packets = (None, o.packets) })
+      code whom
+  pub disk : IfSome after (λ now. IsTrue tells → IsOnDisk last now)
+  pub is_left : IsTrue (is_some after)
 
 -- Either was it, or there was no memory.
-abbrev pub RunsOver : Destination → (words : List (List ℕ)) → (fails_at : List ℕ → Type 0) → (holds : Contents) → Streams → (code : ℕ) → (whom : Named) → Type 0
-RunsOver destination words fails_at holds o code whom = IsRunOver destination words fails_at holds o code whom ⊎ WantsMemory o code whom
+abbrev pub RunsOver : Destination → (words : List (List ℕ)) → (fails_at : List ℕ → Type 0) → (tells : Bool) → (holds : Contents)
+    → (after : Option Contents) → Streams → (code : ℕ) → (whom : Named) → Type 0
+RunsOver destination words fails_at tells holds after o code whom =
+    IsRunOver destination words fails_at tells holds after o code whom ⊎ WantsMemory o code whom

@@ -1,6 +1,6 @@
 //! What the program does, whatever objects it is given.
 
-ghost use Rattle.std.specs.Prelude.{◌≡◌, ◌≤◌, IfOk, None, drop, if◌then◌else◌, map, string_bytes};
+ghost use Rattle.std.specs.Prelude.{◌≡◌, ◌≤◌, IfOk, None, drop, if◌then◌else◌, map, option_map, string_bytes};
 ghost use Rattle.std.specs.Process.{exit_status};
 ghost use Rattle.vd_cmd_host.specs.Hosts.{nets_of};
 ghost use Rattle.vd_cmd_plan.specs.Lines.{Says, code_of, status_line};
@@ -173,14 +173,15 @@ pub(crate) fn run_over<D: Directory + Drop, M: Marks, O: Sink, E: Sink, N: Net +
 ) -> Ran<D>
     requires listeners { (N.view net.old.net).given ≤ 4294967000 }
     requires children { (S.view spawner.old).given ≤ 4294967000 }
-    ensures { RunsOver destination words.now (D.fails_at files.directory) (D.holds files.directory) (record {
-      out = (O.view out.old, O.view out.new);
-      err = (E.view err.old, E.view err.new);
-      marks = (M.view marks.old, M.view marks.new);
-      nets = (nets_of (N.view net.old.net) net.old.ledger net.old.faults, nets_of (N.view net.new.net) net.new.ledger net.new.faults);
-      spawner = (S.view spawner.old, S.view spawner.new);
-      packets = result.ending.packets;
-    }) (exit_status result.ending.code) result.ending.named }
+    ensures { RunsOver destination words.now (D.fails_at files.directory) D.tells (D.holds files.directory)
+        (option_map (λ kept. D.holds kept.files.directory) result.files) (record {
+          out = (O.view out.old, O.view out.new);
+          err = (E.view err.old, E.view err.new);
+          marks = (M.view marks.old, M.view marks.new);
+          nets = (nets_of (N.view net.old.net) net.old.ledger net.old.faults, nets_of (N.view net.new.net) net.new.ledger net.new.faults);
+          spawner = (S.view spawner.old, S.view spawner.new);
+          packets = result.ending.packets;
+        }) (exit_status result.ending.code) result.ending.named }
 {
     match read_ahead(alloc, words, files) {
         Ok(mut files) => {

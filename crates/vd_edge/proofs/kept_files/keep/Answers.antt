@@ -4,7 +4,7 @@ use Rattle.vd_edge.proofs.kept_files.keep.Goals as goal
 
 pub returns-in_ok-push-clause-held : goal.returns-in_ok-push-clause-held
 returns-in_ok-push-clause-held g c =
-    read_is_held c.args.reading.now.kept c.push.new.self (record { name = c.in_ok-name.name; held = c.in-Some.held }) c.as_str-2.result.now c.in_ok-held.field-0 (g.D.Directory.holds c.args.files.now.directory)
+    read_is_held g.D.Directory.tells c.args.reading.now.kept c.push.new.self (record { name = c.in_ok-name.name; held = c.in-Some.held }) c.as_str-2.result.now c.in_ok-held.field-0 (g.D.Directory.holds c.args.files.now.directory)
     c.in_ok-push.ensures.ok (c.as_str-2.ensures ∙ sym (c.in_ok-name.ensures ∙ c.as_str-in-Some.ensures)) c.in-Some.is c.in_ok-held.ensures.held
 
 pub returns-in_ok-push-clause-tried : goal.returns-in_ok-push-clause-tried

@@ -7,8 +7,8 @@ use Rattle.vd_edge.proofs.kept_files.read_all.Goals as goal
 pub loop-file-preserved : goal.loop-file-preserved
 loop-file-preserved g c =
     let same = c.loop-file.invariant.4 in (
-      subst (λ d. AreHeldOf c.keep.new.reading.kept (g.D.Directory.holds d)) same
-          (c.in_ok-keep.ensures.held (subst (λ d. AreHeldOf c.loop-file.reading.kept (g.D.Directory.holds d)) (sym same) c.loop-file.invariant.0)),
+      subst (λ d. AreHeldOf g.D.Directory.tells c.keep.new.reading.kept (g.D.Directory.holds d)) same
+          (c.in_ok-keep.ensures.held (subst (λ d. AreHeldOf g.D.Directory.tells c.loop-file.reading.kept (g.D.Directory.holds d)) (sym same) c.loop-file.invariant.0)),
       tried_more c.args.wanted.now c.loop-file.file-index c.file-item.result c.loop-file.reading c.keep.new.reading c.loop-file-test.true c.in_ok-keep.ensures.before c.loop-file.invariant.1
           (subst (λ (file : Wanted). IsTrue (is_tried c.keep.new.reading.kept c.keep.new.reading.unread file.name)) c.file-item.is c.in_ok-keep.ensures.tried),
       c.in_ok-keep.ensures.counted c.args.files.now.faults c.loop-file.invariant.2,
