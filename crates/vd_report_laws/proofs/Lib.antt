@@ -2,3 +2,4 @@ pub mod Front
 mod Judged
 mod Searching
 mod Picked
+mod ChoiceTold

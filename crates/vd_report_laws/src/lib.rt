@@ -1,7 +1,8 @@
-//! What each deal file, each schedule and the deals of all hosts come to. Nothing is computed here: each function's clause is
-//! a law.
+//! What each deal file, each schedule and the deals of all hosts come to, and that a printed choice tells the choice. Nothing is
+//! computed here: each function's clause is a law.
 #![tactic(auto)]
 
+ghost use Rattle.vd_report_laws.specs.Choices.{ChoiceLinesTellTheChoice};
 ghost use Rattle.vd_report_laws.specs.Outcomes.{OutcomesAreSingle, ReplayOutcomes};
 
 /// Each deal file, each schedule file and the deals of all hosts have an outcome, so there are functions that pick it: the deal
@@ -14,4 +15,10 @@ pub fn outcomes_exist()
 /// None of them has two.
 pub fn outcomes_are_single()
     ensures { OutcomesAreSingle }
+{}
+
+/// Two choices of one program that are printed alike are one: at the same protocol for each slot, and of the same cost. So what is
+/// printed tells the choice.
+pub fn choice_lines_tell_the_choice()
+    ensures { ChoiceLinesTellTheChoice }
 {}
