@@ -5,3 +5,4 @@ mod Causes
 mod Reports
 mod Completes
 mod Holding
+mod OwnLines

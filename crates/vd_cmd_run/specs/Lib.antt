@@ -3,6 +3,7 @@ pub mod CommandLines
 pub mod Compiled
 pub mod Completing
 pub mod EndedLines
+pub mod HostLines
 pub mod Running
 pub mod RunsHosts
 pub mod Statuses

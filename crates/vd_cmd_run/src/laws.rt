@@ -2,6 +2,7 @@
 
 ghost use Rattle.vd_cmd_run.specs.Asking.{EndedRunsReport, RunsAskInOrder};
 ghost use Rattle.vd_cmd_run.specs.Completing.{RunsAreComplete, StatusesHaveCauses};
+ghost use Rattle.vd_cmd_run.specs.HostLines.{EachHostHasItsLine};
 
 /// A good source, children that are hosts, and no fault of the outside give status 0, or memory runs out.
 pub fn runs_are_complete()
@@ -23,4 +24,10 @@ pub fn runs_ask_in_order()
 /// it printed.
 pub fn ended_runs_report()
     ensures { EndedRunsReport }
+{}
+
+/// The command lines of a run, read as commands, play each host from its own program and its own deal on the inputs of all. Both
+/// ends of a pair have one address, the addresses of two pairs are two, and no two hosts have one file.
+pub fn each_host_has_its_line()
+    ensures { EachHostHasItsLine }
 {}

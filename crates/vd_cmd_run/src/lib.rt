@@ -12,5 +12,8 @@ mod run_command;
 mod running;
 mod statuses;
 
-pub use laws::{ended_runs_report, runs_are_complete, runs_ask_in_order, statuses_have_causes};
+pub use laws::{
+    each_host_has_its_line, ended_runs_report, runs_are_complete, runs_ask_in_order,
+    statuses_have_causes,
+};
 pub use run_command::run;
