@@ -1,3 +1,4 @@
 mod Compiled
 mod Telling
 mod Running
+mod Hashed

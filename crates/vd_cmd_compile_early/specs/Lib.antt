@@ -1,3 +1,4 @@
 pub mod Compiling
 pub mod Telling
 pub mod Running
+pub mod Plans

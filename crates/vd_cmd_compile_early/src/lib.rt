@@ -3,5 +3,7 @@
 #![tactic(auto)]
 
 mod early_command;
+mod laws;
 
 pub use early_command::run_early;
+pub use laws::plans_tell_source_choice_and_order;

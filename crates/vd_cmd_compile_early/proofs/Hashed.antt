@@ -1,0 +1,97 @@
+-- The last byte of a printed choice is behind a digit, and that of the word for the other order is not.
+use Rattle.std.proofs.Common.{◌≡◌, ℕ, ◌+◌, ◌-◌, ◌*◌, ◌<◌, ◌≤◌, ◌^◌, true, nat_le, List, [], ◌∷◌, ◌++◌, length, refl, sym, ap, ◌∙◌, append_assoc, arith}
+use Rattle.std.specs.Prelude.{codes}
+use Rattle.std.specs.Fmt.{decimal}
+use Rattle.std.specs.List.{fold, list_all}
+use Rattle.std.proofs.lemmas.Bool.{and_from, and_parts, le-leb, leb-true}
+use Rattle.std.proofs.lemmas.Fmt.{decimal_nonempty, digits_decimal}
+use Rattle.std.proofs.lemmas.List.{append_cancel_left, append_cancel_right}
+use Rattle.std.proofs.lemmas.Str.Parse.{FoldsDigits, IsDigitsTest, IsNumeralModel, numerals_by_fold}
+use Rattle.vd_base.specs.Lexical.{is_digit}
+use Rattle.vd_core.specs.declared.normal.NormalForm.{NormalForm}
+use Rattle.vd_report.specs.ChoiceLines.{slot_lines}
+use Rattle.vd_search_stages.specs.declared.optimum.Assignment.{Assignment}
+use Rattle.vd_cmd_choice.specs.Choice.{printed_at}
+use Rattle.vd_cmd_compile_early.specs.Plans.{PlansTell}
+
+-- ---- digits
+
+digit_low : (d : ℕ) → is_digit d ≡ true → 48 ≤ d
+digit_low d h = leb-true 48 d (and_parts (nat_le 48 d) (nat_le d 57) h).0
+
+digit_high : (d : ℕ) → is_digit d ≡ true → d ≤ 57
+digit_high d h = leb-true d 57 (and_parts (nat_le 48 d) (nat_le d 57) h).1
+
+digit_in : (d : ℕ) → 48 ≤ d → d ≤ 57 → is_digit d ≡ true
+digit_in d low high = and_from (nat_le 48 d) (nat_le d 57) (le-leb 48 d low) (le-leb d 57 high)
+
+abbrev AreDigits : List ℕ → Type 0
+AreDigits text = list_all is_digit text ≡ true
+
+tests : IsDigitsTest AreDigits
+tests = record {
+  empty = refl;
+  parts = λ c cs h. let p = and_parts (is_digit c) (list_all is_digit cs) h in ((digit_low c p.0, digit_high c p.0), p.1);
+  more = λ c cs range h. and_from (is_digit c) (list_all is_digit cs) (digit_in c range.0 range.1) h;
+}
+
+abbrev value_from : ℕ → List ℕ → ℕ
+value_from n digits = fold (λ m d. m * 10 + (d - 48)) n digits
+
+folds : FoldsDigits value_from
+folds = record { empty = λ n. refl; more = λ n c cs range. refl }
+
+own : IsNumeralModel AreDigits (value_from 0)
+own = numerals_by_fold AreDigits tests value_from folds
+
+-- ---- the last byte
+
+abbrev last_of : ℕ → List ℕ → ℕ
+last_of x [] = x
+last_of x (y ∷ ys) = last_of y ys
+
+last_behind : (z : ℕ) (before : List ℕ) (x : ℕ) (xs : List ℕ) → last_of z (before ++ x ∷ xs) ≡ last_of x xs
+last_behind z [] x xs = refl
+last_behind z (y ∷ before) x xs = last_behind y before x xs
+
+last_digit : (x : ℕ) (xs : List ℕ) → AreDigits (x ∷ xs) → is_digit (last_of x xs) ≡ true
+last_digit x [] h = (and_parts (is_digit x) true h).0
+last_digit x (y ∷ ys) h = last_digit y ys (and_parts (is_digit x) (list_all is_digit (y ∷ ys)) h).1
+
+not_early : (before other digits : List ℕ) → 0 < length digits → AreDigits digits → before ++ digits ≡ other ++ codes "early" → ⊥
+not_early before other [] some are e = absurd (omega (arith, some))
+not_early before other (x ∷ xs) some are e =
+    let last : last_of x xs ≡ 121 = sym (last_behind 0 before x xs) ∙ ap (last_of 0) e ∙ last_behind 0 other 101 (97 ∷ 114 ∷ 108 ∷ 121 ∷ []) in
+    let high = digit_high (last_of x xs) (last_digit x xs are) in
+    omega (arith, last, high)
+
+-- ---- plans
+
+other_order : (program : NormalForm) (a : Assignment) (text other printed : List ℕ) → a.cost < 2 ^ 64 → text ++ printed_at program a ≡ other ++ (printed ++ codes "early\n") → ⊥
+other_order program a text other printed small e =
+    let lines = slot_lines program.hosts 0 program.slots a.protocols in
+    not_early (text ++ (lines ++ codes "cost ")) (other ++ printed) (decimal a.cost) (decimal_nonempty a.cost small) (digits_decimal own a.cost small)
+    (append_cancel_right ((text ++ (lines ++ codes "cost ")) ++ decimal a.cost) ((other ++ printed) ++ codes "early") (codes "\n") (sym (left lines) ∙ e ∙ right))
+  where
+    left : (lines : List ℕ) → text ++ (lines ++ (codes "cost " ++ (decimal a.cost ++ codes "\n"))) ≡ ((text ++ (lines ++ codes "cost ")) ++ decimal a.cost) ++ codes "\n"
+    left lines =
+        ap (λ z. text ++ z) (sym (append_assoc lines (codes "cost ") (decimal a.cost ++ codes "\n")))
+        ∙ sym (append_assoc text (lines ++ codes "cost ") (decimal a.cost ++ codes "\n"))
+        ∙ sym (append_assoc (text ++ (lines ++ codes "cost ")) (decimal a.cost) (codes "\n"))
+
+    right : other ++ (printed ++ codes "early\n") ≡ ((other ++ printed) ++ codes "early") ++ codes "\n"
+    right = sym (append_assoc other printed (codes "early\n")) ∙ sym (append_assoc (other ++ printed) (codes "early") (codes "\n"))
+
+pub plans_tell : PlansTell
+plans_tell =
+    record {
+      hashed = λ text printed. text ++ printed;
+      early_hashed = λ text printed. text ++ (printed ++ codes "early\n");
+      plan = λ text printed. refl;
+      early_plan = λ text printed. refl;
+      choice = λ text printed other e. append_cancel_left text printed other e;
+      early_choice = λ text printed other e. append_cancel_right printed other (codes "early\n") (append_cancel_left text (printed ++ codes "early\n") (other ++ codes "early\n") e);
+      source = λ text other printed e. append_cancel_right text other printed e;
+      early_source = λ text other printed e. append_cancel_right text other (printed ++ codes "early\n") e;
+      order = λ program a text other printed small e. other_order program a text other printed small e;
+    }

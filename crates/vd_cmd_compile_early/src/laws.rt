@@ -1,0 +1,9 @@
+//! What is true of the plans by which programs know each other. Nothing is computed.
+
+ghost use Rattle.vd_cmd_compile_early.specs.Plans.{PlansTell};
+
+/// What is hashed for a plan tells what is printed of the choice of a source, and the source with one printed choice. Whatever
+/// sources and choices are, it tells whether the programs are in program order or in an order that waits less.
+pub fn plans_tell_source_choice_and_order()
+    ensures { PlansTell }
+{}
