@@ -12,12 +12,12 @@ use Rattle.vd_execution.specs.declared.instructions.Action.{Action}
 use Rattle.vd_execution.specs.declared.instructions.Action.TheVariants as action
 use Rattle.vd_execution.specs.Registers.{Registers}
 use Rattle.vd_execution.specs.Code.{Code, Finished, Then, Send, Recv, Choose, Repeat}
-use Rattle.vd_execution.specs.Step.{Source, Inputs, OwnWords, Triples, BitTriples, Pairs, Cursors, Need, Nothing, Item, Packet, Unequal, Ended, Given, of_length, need, need_of, need_of_action}
+use Rattle.vd_execution.specs.Step.{Source, Inputs, OwnWords, Triples, BitTriples, Pairs, Cursors, Need, Nothing, Item, Packet, Unequal, Ended, Given, answer, of_length, need, need_of, need_of_action}
 use Rattle.vd_execution.specs.States.{host_state, ready_or, short_of, state_for}
-use Rattle.vd_execution.specs.World.{World, Supply, AllEnded, EndedFrom, IsPrefixOf, IsStuck, all_rounds, followed_by_zeros, given, run, words_of}
+use Rattle.vd_execution.specs.World.{World, Supply, AllEnded, EndedFrom, IsPrefixOf, IsShort, IsShortAt, IsStuck, all_rounds, followed_by_zeros, given, run, step, words_of}
 use Rattle.vd_execution.specs.Joint.{Joint, started, at_end}
 use Rattle.vd_execution_confluence.specs.Claims.{RunsWell, Suffices, IsOf, last_of, then_all}
-use Rattle.vd_execution_confluence.proofs.Front.{on_the_way, whole, all_stuck, run_ended, run_both}
+use Rattle.vd_execution_confluence.proofs.Front.{ended_needs, on_the_way, stepped, whole, all_stuck, run_ended, run_both}
 use Rattle.vd_report.specs.declared.schedule.Schedule.{Schedule}
 use Rattle.vd_backend_laws.specs.Whole.{CanRun, RunsAsToldBy}
 use Rattle.vd_backend_laws.proofs.Front.{code_runs_well}
@@ -74,6 +74,21 @@ all_ended s n w past have h = elim (cases_lt h n) [ inl lt ↦ pending_ended s w
 have_ended : (s : Supply) (n : ℕ) (w : World) → AllEnded w → HaveEnded s n w
 have_ended s n w all h lt = ap (λ (c : Code). state_for (given s w h (w h)) (w h).state.cursors (need_of (w h).state.registers c)) (all h)
 
+-- a host that has ended neither steps nor is short, so who does is one of the hosts
+low_of : (n : ℕ) (w : World) (h : ℕ) → EndedFrom n w → ((w h).state.pending ≡ Finished → ⊥) → h < n
+low_of n w h past left = elim (cases_lt h n) [ inl lt ↦ lt | inr le ↦ absurd (left (past h le)) ]
+
+not_answered : (g : Given) (c : Cursors) (n : Need) (xs : List ℕ) → answer g c n ≡ Some xs → n ≡ Ended → ⊥
+not_answered g c n xs e h = let z = ap (answer g c) h in cc
+
+step_low : (s : Supply) (n : ℕ) (w : World) (h : ℕ) (u : World) → EndedFrom n w → step s h w ≡ Some u → h < n
+step_low s n w h u past e =
+    let a = stepped s h w u e in
+    low_of n w h past (λ ended. not_answered (given s w h (w h)) (w h).state.cursors (need (w h).state) a.words a.able (ended_needs (w h) ended))
+
+short_low : (s : Supply) (n : ℕ) (w : World) (h : ℕ) → EndedFrom n w → IsShort s w h → h < n
+short_low s n w h past short = low_of n w h past (λ ended. subst (λ (need : Need). IsShortAt (s h) (w h).state.cursors need) (ended_needs (w h) ended) short)
+
 -- ---- the worlds that a schedule leads to
 
 module _ (n : ℕ) (outputs : List (List ℕ)) (s : Supply) (j : Joint) (runs : RunsWell s j) (of_hosts : IsOf n j)
@@ -87,7 +102,11 @@ module _ (n : ℕ) (outputs : List (List ℕ)) (s : Supply) (j : Joint) (runs : 
         printed = λ h lt. subst (λ (xs : List ℕ). IsPrefixOf (w h).printed xs) (sym (prints h lt)) (way.printed h);
         sent = way.talk;
         faultless = way.faultless;
-        goes_on = elim way.goes_on [ inl all ↦ inl (have_ended s n w all) | inr on ↦ inr on ];
+        goes_on = elim way.goes_on [
+          | inl all ↦ inl (have_ended s n w all)
+          | inr (inl can) ↦ inr (inl (record { host = can.0; low = step_low s n w can.0 can.1.0 past can.1.1; holds = can.1 }))
+          | inr (inr short) ↦ inr (inr (record { host = short.0; low = short_low s n w short.0 past short.1; holds = short.1 }))
+        ];
         all_printed = λ have h lt. ap (λ (v : World). (v h).printed) (way.whole (all_ended s n w past have)) ∙ sym (prints h lt);
         all_sent = λ have h p. ap (λ (v : World). words_of ((v h).sent p)) (way.whole (all_ended s n w past have));
       }

@@ -24,6 +24,12 @@ use Rattle.vd_world_report.specs.Schedules.{replayed}
 abbrev pub HaveEnded : Supply → ℕ → World → Type 0
 HaveEnded s n w = (h : ℕ) → h < n → host_state s w h ≡ Ended
 
+-- one of the first n hosts
+pub record SomeOf (n : ℕ) (Holds : ℕ → Type 0) : Type 0 where
+  pub host : ℕ
+  pub low : host < n
+  pub holds : Holds host
+
 -- a world of n hosts that are told these outputs, and that send what is sent in the joint run
 pub record IsToldOf (n : ℕ) (outputs : List (List ℕ)) (last : Hosts) (s : Supply) (w : World) : Type 0 where
   -- each host has printed a prefix of the words that it is told
@@ -32,8 +38,8 @@ pub record IsToldOf (n : ℕ) (outputs : List (List ℕ)) (last : Hosts) (s : Su
   pub sent : (h p : ℕ) → IsPrefixOf (words_of ((w h).sent p)) (words_of ((last h).sent p))
   -- no host stands at unequal words, or before a packet of another length
   pub faultless : HasNoFault w
-  -- where not all have ended, some host can step, or needs an input or an item past the end of its list
-  pub goes_on : HaveEnded s n w ⊎ ((h : ℕ) × CanStep s w h) ⊎ ((h : ℕ) × IsShort s w h)
+  -- where not all have ended, one of the hosts can step, or needs an input or an item past the end of its list
+  pub goes_on : HaveEnded s n w ⊎ SomeOf n (CanStep s w) ⊎ SomeOf n (IsShort s w)
   -- where all have ended, each has printed all words that it is told, and sent all words
   pub all_printed : HaveEnded s n w → (h : ℕ) → h < n → (w h).printed ≡ slice_index_or outputs h []
   pub all_sent : HaveEnded s n w → (h p : ℕ) → words_of ((w h).sent p) ≡ words_of ((last h).sent p)
