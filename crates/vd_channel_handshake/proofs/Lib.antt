@@ -1,5 +1,5 @@
+mod Agreeing
 mod Ends
 mod Greeted
-mod Honest
 mod Refusing
 mod Saying

@@ -19,7 +19,7 @@ drop_front : (n : ℕ) (xs ys : List ℕ) → length xs ≡ n → drop n (xs ++ 
 drop_front n xs ys is = ap (λ (m : ℕ). drop m (xs ++ ys)) (sym is) ∙ drop-append_seam xs ys
 
 -- a code has 32 bytes, and what covers bytes as many as these
-code_long : (keys : Direction) (number : ℕ) (covered : List ℕ) → length (record_code keys number covered) ≡ 32
+pub code_long : (keys : Direction) (number : ℕ) (covered : List ℕ) → length (record_code keys number covered) ≡ 32
 code_long keys number covered = length-sha256 _
 
 pub cover_long : (bytes stream : List ℕ) → length (under bytes stream) ≡ length bytes

@@ -1,5 +1,6 @@
 pub mod Front
 mod Carried
+mod Cut
 mod Beginning
 mod Filled
 mod Given

@@ -28,13 +28,13 @@ fuel keys (suc m) zero number (x ∷ raw) h k = absurd (omega (arith, k))
 fuel keys (suc m) (suc n) number raw h k =
     ap (λ (l : List ℕ). if begins keys number raw then bytes_at keys number raw ++ l else []) (fuel keys m n (number + 1) (behind raw) (shorter raw m h) (shorter raw n k))
 
-none_opened : (keys : Direction) (number : ℕ) (raw : List ℕ) → begins keys number raw ≡ false → plain_of keys number raw ≡ []
+pub none_opened : (keys : Direction) (number : ℕ) (raw : List ℕ) → begins keys number raw ≡ false → plain_of keys number raw ≡ []
 unfolding opened
 none_opened keys number [] e = refl
 none_opened keys number (x ∷ raw) e = passed (begins keys number (x ∷ raw)) (bytes_at keys number (x ∷ raw) ++ opened keys (number + 1) (length raw) (behind (x ∷ raw))) [] e
 
 -- one record, and what is behind it
-one_more : (keys : Direction) (number : ℕ) (bytes rest : List ℕ) → length bytes ≤ 128
+pub one_more : (keys : Direction) (number : ℕ) (bytes rest : List ℕ) → length bytes ≤ 128
     → plain_of keys number (sealed keys number bytes ++ rest) ≡ bytes ++ plain_of keys (number + 1) rest
 unfolding opened
 one_more keys number bytes rest few =

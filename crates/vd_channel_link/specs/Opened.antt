@@ -76,3 +76,8 @@ pub record IsCovered (keys : Direction) (number : ℕ) (raw : List ℕ) : Type 0
 
 abbrev pub OpenedIsCovered : Type 0
 OpenedIsCovered = (keys : Direction) (number : ℕ) (raw : List ℕ) → IsCovered keys number raw
+
+-- what is opened of a prefix of records is a prefix of what they carry
+abbrev pub OpenedIsFront : Type 0
+OpenedIsFront = (keys : Direction) (number : ℕ) (pieces : List (List ℕ)) (front rest : List ℕ) → AllByRecursion IsSmall pieces
+    → front ++ rest ≡ records keys number pieces → (left : List ℕ) × (plain_of keys number front ++ left ≡ flat pieces)

@@ -1,11 +1,16 @@
 //! What records give, as laws.
 
-ghost use Rattle.vd_channel_link.specs.Opened.{OpenedIsCovered, OpenedIsSent};
+ghost use Rattle.vd_channel_link.specs.Opened.{OpenedIsCovered, OpenedIsFront, OpenedIsSent};
 ghost use Rattle.vd_channel_link.specs.Session.{SentIsCarried};
 
 /// What was sent in records is what is opened of them.
 pub fn opened_is_sent()
     ensures { OpenedIsSent }
+{}
+
+/// Where only a prefix of records came, a prefix of what they carry is opened.
+pub fn opened_is_front()
+    ensures { OpenedIsFront }
 {}
 
 /// What is opened of any bytes was sent in records, each with the code of its direction and place.

@@ -12,7 +12,7 @@ mod taking;
 
 pub use fault::SealFault;
 pub use filling::fill;
-pub use laws::{opened_is_covered, opened_is_sent, sent_is_carried};
+pub use laws::{opened_is_covered, opened_is_front, opened_is_sent, sent_is_carried};
 pub use piece::Piece;
 pub use sealed_link::SealedLink;
 pub use session::Session;

@@ -13,11 +13,11 @@ use Rattle.vd_channel_crypto.proofs.Front.{both_ends}
 use Rattle.vd_channel_link.specs.Opened.{IsSmall, flat, has_code, has_tag, is_few, plain_of, records}
 use Rattle.vd_channel_link.specs.declared.fault.SealFault.{SealFault}
 use Rattle.vd_channel_link.specs.declared.fault.SealFault.TheVariants as fault
-use Rattle.vd_channel_link.proofs.Front.{begins_sealed, long, sent}
+use Rattle.vd_channel_link.proofs.Front.{begins_sealed, long, opened_front, sent}
 use Rattle.vd_channel_handshake.specs.Ends.{AreOfEnds, HonestEndsMeet, said_by}
 use Rattle.vd_channel_handshake.specs.Meeting.{DifferBetween, HaveMet, IsHelloFault, IsMeetFault, IsProofFault, OfHello, OfProof, greeting, head_of}
 
--- ---- both ends have one digest
+-- ---- both ends have the same keys
 
 same_keys : (key : List ℕ) (mine theirs : Hello) → AreOfEnds mine theirs
     → link_direction key theirs.from.0 (digest_between mine theirs) ≡ link_direction key theirs.from.0 (digest_between theirs mine)
@@ -140,5 +140,23 @@ read key mine theirs before now keys pieces rest ends met told came small =
     subst (λ (d : Direction). plain_of d 1 now.coming ≡ flat pieces ++ plain_of d (1 + length pieces) rest) (sym same)
     (ap (plain_of theirs_keys 1) behind ∙ sent theirs_keys 1 pieces rest small)
 
+read_front : (key : List ℕ) (mine theirs : Hello) (before now : LinkView) (keys : Keys × Keys) (pieces : List (List ℕ)) (rest : List ℕ) → AreOfEnds mine theirs
+    → HaveMet mine key before now keys → IsTrue now.told → before.coming ++ rest ≡ said_by key theirs mine pieces → AllByRecursion IsSmall pieces
+    → (left : List ℕ) × (plain_of (direction keys.1) 1 now.coming ++ left ≡ flat pieces)
+read_front key mine theirs before now keys pieces rest ends met told came small =
+    let theirs_keys = link_direction key theirs.from.0 (digest_between theirs mine) in
+    let all = records theirs_keys 1 pieces in
+    let first = sealed (direction keys.1) 0 [] in
+    let heard : hello_bytes met.theirs ++ ((first ++ now.coming) ++ rest) ≡ hello_bytes theirs ++ (proof_of key theirs mine ++ all) =
+    sym (append_assoc (hello_bytes met.theirs) (first ++ now.coming) rest) ∙ ap (λ (l : List ℕ). l ++ rest) (sym (met.came told)) ∙ came
+    ∙ append_assoc (hello_bytes theirs) (proof_of key theirs mine) all in
+    let said = heard_is_said mine theirs met.theirs ((first ++ now.coming) ++ rest) (proof_of key theirs mine ++ all) ends met.id_is met.from_is met.to_is met.nonce heard in
+    let same : direction keys.1 ≡ theirs_keys =
+    met.other_key ∙ ap (λ (h : Hello). link_direction key h.from.0 (digest_between mine h)) said.0 ∙ same_keys key mine theirs ends in
+    let behind : now.coming ++ rest ≡ all =
+    append_cancel_left (sealed theirs_keys 0 []) (now.coming ++ rest) all
+    (ap (λ (d : Direction). sealed d 0 [] ++ (now.coming ++ rest)) (sym same) ∙ sym (append_assoc first now.coming rest) ∙ said.1) in
+    subst (λ (d : Direction). (left : List ℕ) × (plain_of d 1 now.coming ++ left ≡ flat pieces)) (sym same) (opened_front theirs_keys 1 pieces now.coming rest small behind)
+
 pub ends_meet : HonestEndsMeet
-ends_meet = record { none_refused = none_refused; read = read }
+ends_meet = record { none_refused = none_refused; read = read; read_front = read_front }
