@@ -1,9 +1,11 @@
 -- The line that tells a person why a call of the outside failed.
-use Rattle.std.specs.Prelude.{◌≡◌, ◌⊎◌, ℕ, List, [], ◌∷◌, ◌++◌, codes, Option, None, Some, slice_get, nat_eq, if◌then◌else◌}
+use Rattle.std.specs.Prelude.{◌≡◌, ◌⊎◌, ℕ, List, [], ◌∷◌, ◌++◌, codes, Option, None, Some, slice_get, nat_eq, option_map, if◌then◌else◌}
 use Rattle.std.specs.Fmt.{decimal}
 use Rattle.vd_cmd.specs.declared.command.Command.{Command}
 use Rattle.vd_cmd.specs.declared.command.Command.TheVariants.{Host}
 use Rattle.vd_cmd.specs.declared.command.HostWords.{HostWords}
+use Rattle.vd_channel_link.specs.declared.fault.SealFault.{SealFault}
+use Rattle.vd_channel_link.specs.declared.fault.SealFault.TheVariants as seal_fault
 use Rattle.vd_edge.specs.PeerReasons.{call_text}
 use Rattle.vd_edge.specs.declared.peer_reason.PeerReason.{PeerReason}
 use Rattle.vd_cmd_host.specs.Loading.{HoldsProgram}
@@ -18,6 +20,20 @@ speaker (Some host) = codes "host " ++ (shown host ++ codes ", ")
 
 abbrev pub reason_line : Option (List ℕ) → List ℕ → List ℕ
 reason_line host reason = codes "viaduct: " ++ (speaker host ++ (shown reason ++ 10 ∷ []))
+
+-- what was wrong with a sealed link; a link below that failed or ended tells so itself
+abbrev pub seal_words : SealFault → Option (List ℕ)
+seal_words seal_fault.Peer = None
+seal_words seal_fault.End = None
+seal_words seal_fault.Version = Some (codes "no viaduct host of this version")
+seal_words seal_fault.Dealing = Some (codes "another dealing")
+seal_words seal_fault.Host = Some (codes "another host")
+seal_words seal_fault.Head = Some (codes "no record")
+seal_words seal_fault.Code = Some (codes "a record without proof")
+
+abbrev pub seal_text : Option SealFault → Option (List ℕ)
+seal_text None = None
+seal_text (Some fault) = option_map (λ words. codes "sealed link: " ++ words) (seal_words fault)
 
 -- a peer goes by its name, where it is known for whom something was done
 abbrev pub peer_part : Option (List ℕ) → List ℕ

@@ -1,8 +1,9 @@
 //! Why a call of the outside failed, as a person is told.
 
-ghost use Rattle.std.specs.Prelude.{◌≡◌, ◌++◌, OnOk, IfOk, option_map, string_bytes};
+ghost use Rattle.std.specs.Prelude.{◌≡◌, ◌++◌, OnErr, OnOk, IfOk, codes, option_map, string_bytes};
+ghost use Rattle.vd_cmd_plan.specs.Lines.{Says};
 ghost use Rattle.vd_cmd_plan.specs.Shown.{shown};
-ghost use Rattle.vd_cmd_driver.specs.Reasons.{address_part, first_text, host_part, noun_of, packets_text, peer_part, peer_text, reason_line, sent_text, speaker};
+ghost use Rattle.vd_cmd_driver.specs.Reasons.{address_part, first_text, host_part, noun_of, packets_text, peer_part, peer_text, reason_line, seal_text, seal_words, sent_text, speaker};
 
 use std::alloc::{AllocError, Global};
 use vd_base::{Bytes, Text};
@@ -147,18 +148,56 @@ fn line_of(alloc: Global, host: Option<&[u8]>, reason: &[u8]) -> Result<Bytes, A
     Ok(line)
 }
 
-/// Tells a person why a call failed, and which host says so. Where there is no memory for the line, or the stream takes no more, it
-/// is not told.
-pub fn tell_reason<E: Sink>(alloc: Global, host: Option<&[u8]>, err: &mut E, reason: &[u8]) {
-    if let Ok(line) = line_of(alloc, host, reason) {
-        let _ = write_all(err, line.as_slice());
+/// Tells a person why a call failed, and which host says so. Where there is no memory for the line it is not told.
+#[tactic(auto, using(vd_cmd_plan::proofs::Front::says))]
+pub fn tell_reason<E: Sink>(
+    alloc: Global,
+    host: Option<&[u8]>,
+    err: &mut E,
+    reason: &[u8],
+) -> Result<(), AllocError>
+    ensures says { OnOk result (Says (reason_line (option_map (λ name. name.now) host.entry) reason.now)
+        (E.view err.old) (E.view err.new)) }
+    ensures silent { OnErr result (E.view err.new ≡ E.view err.old) }
+{
+    let line = line_of(alloc, host, reason)?;
+    let _ = write_all(err, line.as_slice());
+    Ok(())
+}
+
+/// What was wrong with a sealed link. A link below that failed or ended tells so itself.
+fn words_of_seal(fault: SealFault) -> Option<&'static str>
+    ensures { option_map (λ words. words.now) result ≡ seal_words fault }
+{
+    match fault {
+        SealFault::Peer | SealFault::End => None,
+        SealFault::Version => Some("no viaduct host of this version"),
+        SealFault::Dealing => Some("another dealing"),
+        SealFault::Host => Some("another host"),
+        SealFault::Head => Some("no record"),
+        SealFault::Code => Some("a record without proof"),
     }
 }
 
-/// Why a peer was hung up, or a link took nothing any more, where that is known. A link below that failed or ended tells so itself.
-pub fn text_of_seal(alloc: Global, fault: Option<SealFault>) -> Option<String> {
-    match fault? {
-        SealFault::Peer | SealFault::End => None,
-        fault => format!(in alloc; "sealed link: {fault}").ok(),
+/// The reason that tells what was wrong with a sealed link.
+fn text_of_words(alloc: Global, words: &str) -> Result<Bytes, AllocError>
+    ensures { IfOk result (λ text. text ≡ codes "sealed link: " ++ words.now) }
+{
+    let mut text = Bytes::new(alloc);
+    text.extend_from_slice(b"sealed link: ")?;
+    text.extend_from_slice(words.as_bytes())?;
+    Ok(text)
+}
+
+/// Why a peer was hung up, or a sealed link took nothing any more, where that is known.
+pub fn text_of_seal(alloc: Global, fault: Option<SealFault>) -> Result<Option<Bytes>, AllocError>
+    ensures { IfOk result (λ text. text ≡ seal_text fault) }
+{
+    let Some(fault) = fault else {
+        return Ok(None);
+    };
+    match words_of_seal(fault) {
+        Some(words) => Ok(Some(text_of_words(alloc, words)?)),
+        None => Ok(None),
     }
 }

@@ -104,7 +104,7 @@ fn tell_text(
     reason: Option<&str>,
 ) {
     if let Some(reason) = reason {
-        tell_reason(alloc, bytes_of(host), err, reason.as_bytes());
+        let _ = tell_reason(alloc, bytes_of(host), err, reason.as_bytes());
     }
 }
 
@@ -122,7 +122,7 @@ fn tell_peer(
     };
     if let Some(reason) = reason {
         if let Ok(text) = text_of_peer(alloc, peer, reason) {
-            tell_reason(alloc, bytes_of(host), err, text.as_slice());
+            let _ = tell_reason(alloc, bytes_of(host), err, text.as_slice());
         }
     }
 }
@@ -147,7 +147,7 @@ fn tell_first(
     status: u32,
 ) {
     if let Ok(text) = text_of_first(alloc, host_numbered(named, number), number, status) {
-        tell_reason(alloc, None, err, text.as_slice());
+        let _ = tell_reason(alloc, None, err, text.as_slice());
     }
 }
 
@@ -178,7 +178,7 @@ fn tell_packets(
     let host = name_of_host(alloc, words, files);
     if host.is_some() {
         if let Ok(text) = text_of_packets(alloc, packets) {
-            tell_reason(alloc, bytes_of(&host), err, text.as_bytes());
+            let _ = tell_reason(alloc, bytes_of(&host), err, text.as_bytes());
         }
     }
 }
@@ -187,7 +187,7 @@ fn tell_packets(
 fn tell_sent(alloc: Global, err: &mut RealSink<Stderr>, packets: Option<u64>) {
     if let Some(sent) = packets {
         if let Ok(text) = text_of_sent(alloc, sent) {
-            tell_reason(alloc, None, err, text.as_bytes());
+            let _ = tell_reason(alloc, None, err, text.as_bytes());
         }
     }
 }
@@ -285,8 +285,9 @@ fn tell_links(
     net: &SealedNet<RealNet<SystemSockets<HostRuntime>>>,
     peer: Option<&Name>,
 ) {
-    let sealed = text_of_seal(alloc, net.fault());
-    tell_text(alloc, host, err, sealed.as_deref());
+    if let Ok(Some(sealed)) = text_of_seal(alloc, net.fault()) {
+        let _ = tell_reason(alloc, bytes_of(host), err, sealed.as_slice());
+    }
     tell_peer(alloc, host, err, peer, net.net.reason());
 }
 
@@ -351,7 +352,7 @@ fn tell_more(
                 spawner,
             );
         } else {
-            tell_reason(alloc, None, err, b"a word is no UTF-8");
+            let _ = tell_reason(alloc, None, err, b"a word is no UTF-8");
         }
     }
 }
