@@ -1,1 +1,2 @@
 mod Speakers
+mod InTurn

@@ -1,2 +1,3 @@
 pub mod Ahead
 pub mod Reasons
+pub mod Telling

@@ -5,9 +5,8 @@
 mod ahead;
 mod reasons;
 mod speaker;
+mod telling;
 
 pub use ahead::read_ahead;
-pub use reasons::{
-    tell_reason, text_of_first, text_of_packets, text_of_peer, text_of_seal, text_of_sent,
-};
 pub use speaker::speaker_of;
+pub use telling::{Reasons, copy_reason, copy_text, tell_fault, tell_no_text, tell_success};

@@ -60,7 +60,7 @@ fn push_address(text: &mut Bytes, address: &Option<Text>) -> Result<(), AllocErr
 }
 
 /// Why something that was done for a peer failed, with the peer's name where that is known.
-pub fn text_of_peer(
+pub(crate) fn text_of_peer(
     alloc: Global,
     peer: Option<&[u8]>,
     reason: &PeerReason,
@@ -96,7 +96,7 @@ fn push_host(
 }
 
 /// Which host of a run was the first to end with a fault, and with which status.
-pub fn text_of_first(
+pub(crate) fn text_of_first(
     alloc: Global,
     host: Option<&[u8]>,
     number: usize,
@@ -120,7 +120,7 @@ fn noun(count: u64) -> &'static str
 }
 
 /// How many packets a host sent, and how many came to it.
-pub fn text_of_packets(alloc: Global, packets: (u64, u64)) -> Result<String, AllocError>
+pub(crate) fn text_of_packets(alloc: Global, packets: (u64, u64)) -> Result<String, AllocError>
     ensures { IfOk result (λ text. string_bytes text ≡ packets_text packets.0 packets.1) }
 {
     let (sent, came) = packets;
@@ -129,7 +129,7 @@ pub fn text_of_packets(alloc: Global, packets: (u64, u64)) -> Result<String, All
 }
 
 /// How many packets the hosts of a replay sent to one another.
-pub fn text_of_sent(alloc: Global, sent: u64) -> Result<String, AllocError>
+pub(crate) fn text_of_sent(alloc: Global, sent: u64) -> Result<String, AllocError>
     ensures { IfOk result (λ text. string_bytes text ≡ sent_text sent) }
 {
     let noun = noun(sent);
@@ -150,7 +150,7 @@ fn line_of(alloc: Global, host: Option<&[u8]>, reason: &[u8]) -> Result<Bytes, A
 
 /// Tells a person why a call failed, and which host says so. Where there is no memory for the line it is not told.
 #[tactic(auto, using(vd_cmd_plan::proofs::Front::says))]
-pub fn tell_reason<E: Sink>(
+pub(crate) fn tell_reason<E: Sink>(
     alloc: Global,
     host: Option<&[u8]>,
     err: &mut E,
@@ -190,7 +190,10 @@ fn text_of_words(alloc: Global, words: &str) -> Result<Bytes, AllocError>
 }
 
 /// Why a peer was hung up, or a sealed link took nothing any more, where that is known.
-pub fn text_of_seal(alloc: Global, fault: Option<SealFault>) -> Result<Option<Bytes>, AllocError>
+pub(crate) fn text_of_seal(
+    alloc: Global,
+    fault: Option<SealFault>,
+) -> Result<Option<Bytes>, AllocError>
     ensures { IfOk result (λ text. text ≡ seal_text fault) }
 {
     let Some(fault) = fault else {

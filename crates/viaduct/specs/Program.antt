@@ -7,36 +7,23 @@ use Rattle.vd_outside.specs.Spawner.{SpawnerView}
 use Rattle.vd_cmd.specs.Commands.{form_of}
 use Rattle.vd_edge.specs.KeptFiles.{IsReadAhead, StandAlone, StandWhole, were_asked}
 use Rattle.vd_cmd_host.specs.Hosts.{NetsView}
-use Rattle.vd_cmd_plan.specs.Lines.{Says, code_of, status_line}
+use Rattle.vd_cmd_plan.specs.Lines.{Says, status_line}
 use Rattle.vd_cmd_plan.specs.declared.status.Status.{Status}
-use Rattle.vd_cmd_plan.specs.declared.status.Status.TheVariants.{ChildFault, Host, Memory}
-use Rattle.vd_cmd_plan.specs.declared.status.HostStatus.TheVariants.{EndOfLink, PeerFault}
+use Rattle.vd_cmd_plan.specs.declared.status.Status.TheVariants.{Memory}
 use Rattle.vd_diag.specs.declared.fault.TellFault.{TellFault}
 use Rattle.vd_diag_terminal.specs.Saying.{SaysTo}
 use Rattle.vd_diag_terminal.specs.declared.telling.Destination.{Destination}
 use Rattle.vd_top.specs.Promises.{Around, Starts}
 use Rattle.vd_cmd_driver.specs.Ahead.{wanted_by}
-use Rattle.viaduct.specs.declared.program.Named.{Named}
-use Rattle.viaduct.specs.declared.program.Named.TheVariants.{Hosts, Nobody, Peer}
 
--- whom a status names
-abbrev pub named_of : Status → Named
-named_of (Host (PeerFault name)) = Peer name
-named_of (Host (EndOfLink name)) = Peer name
-named_of (ChildFault names fault) = Hosts names
-named_of status = Nobody
-
--- The command line was run; then more was said of its status to the person at a terminal; and the process ends with its number.
-pub record IsRun (destination : Destination) (words : List (List ℕ)) (o : Around) (code : ℕ) (whom : Named) : Type 0 where
-  pub status : Status
+-- The command line was run, and ended with this status; then more was said of it to the person at a terminal.
+pub record IsRun (destination : Destination) (words : List (List ℕ)) (o : Around) (status : Status) : Type 0 where
   -- the files and the error stream between the two
   pub files : FilesView
   pub err : SinkView
   pub starts : Starts words (record o { files = (o.files.0, files); err = (o.err.0, err) }) status
   pub said : Result (Unit {0}) TellFault
   pub more : SaysTo destination words status files o.files.1 err o.err.1 said
-  pub ends : code ≡ code_of status
-  pub named : whom ≡ named_of status
 
 -- the objects that a run uses besides files, each before it and after it, and how many packets it says that hosts sent
 pub record Streams : Type 0 where
@@ -48,15 +35,14 @@ pub record Streams : Type 0 where
   pub packets : Option ℕ
 
 -- There was no memory for the files, which is said; nothing else was done.
-pub record WantsMemory (o : Streams) (code : ℕ) (whom : Named) : Type 0 where
+pub record WantsMemory (o : Streams) (status : Status) : Type 0 where
   pub says : Says (status_line Memory) o.err.0 o.err.1
   pub out : o.out.1 ≡ o.out.0
   pub marks : o.marks.1 ≡ o.marks.0
   pub nets : o.nets.1 ≡ o.nets.0
   pub spawner : o.spawner.1 ≡ o.spawner.0
   pub packets : o.packets ≡ None
-  pub ends : code ≡ code_of Memory
-  pub named : whom ≡ Nobody
+  pub ends : status ≡ Memory
 
 -- What a directory holds after a run is what the files told last: each file whole, and nothing else, but at and beside the name of a store
 -- that was asked and failed.
@@ -69,19 +55,19 @@ pub record IsOnDisk (last : FilesView) (disk : Contents) : Type 0 where
 -- The command line was run over the files that it may fetch, each of which was read ahead, or a read of it failed. What the directory
 -- held before is what the files told first, where it tells that, and what it holds afterwards is what they told last.
 pub record IsRunOver (destination : Destination) (words : List (List ℕ)) (fails_at : List ℕ → Type 0) (tells : Bool) (holds : Contents)
-    (after : Option Contents) (o : Streams) (code : ℕ) (whom : Named) : Type 0 where
+    (after : Option Contents) (o : Streams) (status : Status) : Type 0 where
   pub read : FilesView
   pub last : FilesView
   pub faults : ℕ × ℕ
   pub ahead : IsReadAhead (wanted_by (form_of words)) fails_at faults tells holds read
   pub run : IsRun destination words
       (record { files = (read, last); out = o.out; err = o.err; marks = o.marks; nets = o.nets; spawner = o.spawner; packets = (None, o.packets) })
-      code whom
+      status
   pub disk : IfSome after (λ now. IsTrue tells → IsOnDisk last now)
   pub is_left : IsTrue (is_some after)
 
 -- Either was it, or there was no memory.
 abbrev pub RunsOver : Destination → (words : List (List ℕ)) → (fails_at : List ℕ → Type 0) → (tells : Bool) → (holds : Contents)
-    → (after : Option Contents) → Streams → (code : ℕ) → (whom : Named) → Type 0
-RunsOver destination words fails_at tells holds after o code whom =
-    IsRunOver destination words fails_at tells holds after o code whom ⊎ WantsMemory o code whom
+    → (after : Option Contents) → Streams → Status → Type 0
+RunsOver destination words fails_at tells holds after o status =
+    IsRunOver destination words fails_at tells holds after o status ⊎ WantsMemory o status

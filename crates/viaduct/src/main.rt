@@ -2,53 +2,34 @@
 //! terminal, more is then said of a fault to the person who sits there.
 #![tactic(auto)]
 
+mod caller;
 mod program;
 
-use program::{Ending, Named, Ran, destination_of, end, reason_of, run_over, words_of};
-use std::alloc::Global;
+ghost use Rattle.std.specs.Prelude.{⊤};
+
+use caller::{Caller, Known, tell_ending};
+use program::{Ran, destination_of, end, exit_code, reason_of, run_over};
+use std::alloc::{AllocError, Global};
 use std::env::{Env, VarError};
 use std::io::{IsTerminal, Stderr, Stdout};
 use std::os::unix::process::parent_id;
 use std::process::ExitCode;
 use std::{env, fs, io, process};
-use vd_base::{Bytes, Name, Texts};
+use vd_base::{Bytes, Texts};
 use vd_channel_net::SealedNet;
-use vd_cmd_driver::{
-    speaker_of, tell_reason, text_of_first, text_of_packets, text_of_peer, text_of_seal,
-    text_of_sent,
-};
+use vd_cmd_driver::{Reasons, copy_reason, copy_text, speaker_of};
 use vd_cmd_plan::Status;
 use vd_diag_terminal::Destination;
-use vd_edge::{
-    KeptFiles, PeerReason, RealFiles, RealNet, RealSink, SystemDirectory, SystemSockets, Waits,
-};
+use vd_edge::{KeptFiles, RealFiles, RealNet, RealSink, SystemDirectory, SystemSockets, Waits};
 use vd_edge_marks::RealMarks;
 use vd_edge_processes::{PARENT, REASONS, RealSpawner};
 
-/// The code of a deal that was used.
-const DEAL_USED: u8 = 33;
-
-/// What a person does then.
-const DEAL_ANEW: &str =
-    "a deal is used once, and the mark of this one stands beside it: take a new deal";
-
-/// The words of the command line after the program's own, and none where one of them is no text.
-fn words(rt: &(impl Env + AllocGlobal)) -> io::Result<Option<Texts>> {
+/// The arguments of the program, and none where one of them is no text.
+fn arguments(rt: &(impl Env + AllocGlobal)) -> io::Result<Option<Vec<String>>> {
     match env::args(rt) {
-        Ok(arguments) => {
-            let arguments: Vec<String> = arguments.collect(rt.alloc())?;
-            Ok(Some(words_of(rt.alloc(), arguments.as_slice())?))
-        }
+        Ok(arguments) => Ok(Some(arguments.collect(rt.alloc())?)),
         Err(error) if error.kind() == io::ErrorKind::OutOfMemory => Err(error),
         Err(_) => Ok(None),
-    }
-}
-
-/// The command line of these words. Words that are no text make none.
-fn line_of(alloc: Global, words: Option<Texts>) -> Texts {
-    match words {
-        Some(words) => words,
-        None => Texts::new(alloc),
     }
 }
 
@@ -76,145 +57,72 @@ fn parent(rt: &HostRuntime) -> Option<u32> {
     }
 }
 
-/// The name by which the host of a command line speaks.
-fn name_of_host(
-    alloc: Global,
-    words: &Texts,
-    files: &mut Option<KeptFiles<SystemDirectory<HostRuntime>>>,
-) -> Option<Bytes> {
-    match files {
-        Some(files) => speaker_of(alloc, words, files),
-        None => None,
-    }
-}
-
-/// The bytes of a name, where there is one.
-fn bytes_of(name: &Option<Bytes>) -> Option<&[u8]> {
-    match name {
-        Some(name) => Some(name.as_slice()),
-        None => None,
-    }
-}
-
-/// Tells why a call failed, where that is known.
-fn tell_text(
-    alloc: Global,
-    host: &Option<Bytes>,
-    err: &mut RealSink<Stderr>,
-    reason: Option<&str>,
-) {
-    if let Some(reason) = reason {
-        let _ = tell_reason(alloc, bytes_of(host), err, reason.as_bytes());
-    }
-}
-
-/// Tells why something that was done for a peer failed, where that is known.
-fn tell_peer(
-    alloc: Global,
-    host: &Option<Bytes>,
-    err: &mut RealSink<Stderr>,
-    peer: Option<&Name>,
-    reason: Option<&PeerReason>,
-) {
-    let peer = match peer {
-        Some(name) => Some(name.as_slice()),
-        None => None,
-    };
-    if let Some(reason) = reason {
-        if let Ok(text) = text_of_peer(alloc, peer, reason) {
-            let _ = tell_reason(alloc, bytes_of(host), err, text.as_slice());
-        }
-    }
-}
-
-/// The name of the host with this number, where the status of a run names its hosts.
-fn host_numbered(named: &Named, number: usize) -> Option<&[u8]> {
-    match named {
-        Named::Hosts(names) => match names.as_slice().get(number) {
-            Some(name) => Some(name.as_slice()),
-            None => None,
-        },
-        Named::Peer(_) | Named::Nobody => None,
-    }
-}
-
-/// Tells which host of a run was the first to end with a fault.
-fn tell_first(
-    alloc: Global,
-    named: &Named,
-    err: &mut RealSink<Stderr>,
-    number: usize,
-    status: u32,
-) {
-    if let Ok(text) = text_of_first(alloc, host_numbered(named, number), number, status) {
-        let _ = tell_reason(alloc, None, err, text.as_slice());
-    }
-}
-
-/// Tells why a program could not be started, and else which host of a run was the first to end with a fault, where that is known.
-fn tell_children(
-    alloc: Global,
-    named: &Named,
-    err: &mut RealSink<Stderr>,
-    spawner: &mut RealSpawner<HostRuntime>,
-) {
-    let started = spawner.reason().is_none();
-    tell_text(alloc, &None, err, spawner.reason());
-    if started {
-        if let Some((number, status)) = spawner.first_failure() {
-            tell_first(alloc, named, err, number, status);
-        }
-    }
-}
-
-/// Tells how many packets a host sent and how many came to it.
-fn tell_packets(
-    alloc: Global,
-    words: &Texts,
-    files: &mut Option<KeptFiles<SystemDirectory<HostRuntime>>>,
-    err: &mut RealSink<Stderr>,
-    packets: (u64, u64),
-) {
-    let host = name_of_host(alloc, words, files);
-    if host.is_some() {
-        if let Ok(text) = text_of_packets(alloc, packets) {
-            let _ = tell_reason(alloc, bytes_of(&host), err, text.as_bytes());
-        }
-    }
-}
-
-/// Tells how many packets the hosts of a replay sent to one another, where it ran any.
-fn tell_sent(alloc: Global, err: &mut RealSink<Stderr>, packets: Option<u64>) {
-    if let Some(sent) = packets {
-        if let Ok(text) = text_of_sent(alloc, sent) {
-            let _ = tell_reason(alloc, None, err, text.as_bytes());
-        }
-    }
-}
-
-/// What is asked of the program, and by whom.
-#[derive(Drop)]
-struct Caller {
-    /// The words of the command line, none where one of them is no text.
-    words: Texts,
-    readable: bool,
-    destination: Destination,
-    /// Whether the reasons of faults are told.
-    told: bool,
-}
-
 /// Who started this program, with which words.
 fn caller_of(rt: &HostRuntime) -> io::Result<Caller> {
-    let destination = destination(rt, &rt.stderr());
-    let told = tells_reasons(rt, &rt.stderr());
-    let arguments = words(rt)?;
-    let readable = arguments.is_some();
-    Ok(Caller {
-        words: line_of(rt.alloc(), arguments),
-        readable,
-        destination,
-        told,
-    })
+    let stream = rt.stderr();
+    Ok(Caller::new(
+        rt.alloc(),
+        &arguments(rt)?,
+        destination(rt, &stream),
+        tells_reasons(rt, &stream),
+    )?)
+}
+
+/// The objects of a run, after it.
+#[derive(Drop)]
+struct Objects {
+    files: Option<KeptFiles<SystemDirectory<HostRuntime>>>,
+    marks: RealMarks<SystemDirectory<HostRuntime>, HostRuntime>,
+    net: SealedNet<RealNet<SystemSockets<HostRuntime>>>,
+    spawner: RealSpawner<HostRuntime>,
+    /// Why the output took nothing more, where that is known.
+    written: Option<String>,
+}
+
+impl Objects {
+    /// The first child of a run that ended with a fault. Of a run of which a program could not be started none is awaited.
+    fn first(&mut self) -> Option<(usize, u32)> {
+        if self.spawner.reason().is_some() {
+            return None;
+        }
+        self.spawner.first_failure()
+    }
+}
+
+impl Known for Objects {
+    ghost is_host = { λ host. ⊤ };
+
+    ghost is_passed = { λ passed. ⊤ };
+
+    ghost is_reasons = { λ reasons. ⊤ };
+
+    fn host(&mut self, alloc: Global, words: &Texts) -> Option<Bytes> {
+        match &mut self.files {
+            Some(files) => speaker_of(alloc, words, files),
+            None => None,
+        }
+    }
+
+    fn passed(&self) -> Option<(u64, u64)> {
+        // Over sealed links packets go in records, which the net below does not count.
+        match self.net.seal {
+            None => Some(self.net.net.packets()),
+            Some(_) => None,
+        }
+    }
+
+    fn reasons(&mut self, alloc: Global) -> Result<Reasons, AllocError> {
+        let first = self.first();
+        Ok(Reasons {
+            files: copy_text(alloc, reason_of(&self.files))?,
+            written: copy_text(alloc, self.written.as_deref())?,
+            mark: copy_text(alloc, self.marks.reason())?,
+            seal: self.net.fault(),
+            peer: copy_reason(alloc, self.net.net.reason())?,
+            started: copy_text(alloc, self.spawner.reason())?,
+            first,
+        })
+    }
 }
 
 /// The runtime, once for each object that keeps it.
@@ -236,125 +144,6 @@ fn runtimes_of(rt: HostRuntime) -> io::Result<Runtimes> {
         spawner: rt.clone()?,
         files: rt,
     })
-}
-
-/// Says how a run went that ended well to a person at a terminal: how many packets went over a host's links, or between the hosts of
-/// a replay.
-fn tell_success(
-    alloc: Global,
-    words: &Texts,
-    ending: &Ending,
-    files: &mut Option<KeptFiles<SystemDirectory<HostRuntime>>>,
-    err: &mut RealSink<Stderr>,
-    net: &SealedNet<RealNet<SystemSockets<HostRuntime>>>,
-) {
-    // Over sealed links packets go in records, which the net below does not count.
-    if net.seal.is_none() {
-        tell_packets(alloc, words, files, err, net.net.packets());
-    }
-    tell_sent(alloc, err, ending.packets);
-}
-
-/// Tells what became of a mark, and of a deal that has one.
-fn tell_marks(
-    alloc: Global,
-    host: &Option<Bytes>,
-    err: &mut RealSink<Stderr>,
-    marks: &RealMarks<SystemDirectory<HostRuntime>, HostRuntime>,
-    code: ExitCode,
-) {
-    tell_text(alloc, host, err, marks.reason());
-    if code == ExitCode::from(DEAL_USED) {
-        tell_text(alloc, host, err, Some(DEAL_ANEW));
-    }
-}
-
-/// The peer that the status of a run names.
-fn peer_of(named: &Named) -> Option<&Name> {
-    match named {
-        Named::Peer(name) => Some(name),
-        Named::Hosts(_) | Named::Nobody => None,
-    }
-}
-
-/// Tells why a link failed, where that is known.
-fn tell_links(
-    alloc: Global,
-    host: &Option<Bytes>,
-    err: &mut RealSink<Stderr>,
-    net: &SealedNet<RealNet<SystemSockets<HostRuntime>>>,
-    peer: Option<&Name>,
-) {
-    if let Ok(Some(sealed)) = text_of_seal(alloc, net.fault()) {
-        let _ = tell_reason(alloc, bytes_of(host), err, sealed.as_slice());
-    }
-    tell_peer(alloc, host, err, peer, net.net.reason());
-}
-
-/// Tells why the output took nothing more, where that is known.
-fn tell_written(
-    alloc: Global,
-    host: &Option<Bytes>,
-    err: &mut RealSink<Stderr>,
-    out: &RealSink<Stdout>,
-) {
-    let written = out.reason(alloc, "standard output");
-    tell_text(alloc, host, err, written.as_deref());
-}
-
-/// Tells why a run did not end well, as far as that is known.
-fn tell_fault(
-    alloc: Global,
-    words: &Texts,
-    ending: &Ending,
-    files: &mut Option<KeptFiles<SystemDirectory<HostRuntime>>>,
-    marks: &RealMarks<SystemDirectory<HostRuntime>, HostRuntime>,
-    out: &RealSink<Stdout>,
-    err: &mut RealSink<Stderr>,
-    net: &SealedNet<RealNet<SystemSockets<HostRuntime>>>,
-    spawner: &mut RealSpawner<HostRuntime>,
-) {
-    let host = name_of_host(alloc, words, files);
-    tell_text(alloc, &host, err, reason_of(files));
-    tell_written(alloc, &host, err, out);
-    tell_marks(alloc, &host, err, marks, ending.code);
-    tell_links(alloc, &host, err, net, peer_of(&ending.named));
-    tell_children(alloc, &ending.named, err, spawner);
-}
-
-/// Says what is known of how a run ended besides its code.
-fn tell_more(
-    alloc: Global,
-    caller: &Caller,
-    ending: &Ending,
-    files: &mut Option<KeptFiles<SystemDirectory<HostRuntime>>>,
-    marks: &RealMarks<SystemDirectory<HostRuntime>, HostRuntime>,
-    out: &RealSink<Stdout>,
-    err: &mut RealSink<Stderr>,
-    net: &SealedNet<RealNet<SystemSockets<HostRuntime>>>,
-    spawner: &mut RealSpawner<HostRuntime>,
-) {
-    if ending.code == ExitCode::SUCCESS {
-        if matches!(caller.destination, Destination::Terminal { .. }) {
-            tell_success(alloc, &caller.words, ending, files, err, net);
-        }
-    } else if caller.told {
-        if caller.readable {
-            tell_fault(
-                alloc,
-                &caller.words,
-                ending,
-                files,
-                marks,
-                out,
-                err,
-                net,
-                spawner,
-            );
-        } else {
-            let _ = tell_reason(alloc, None, err, b"a word is no UTF-8");
-        }
-    }
 }
 
 /// Runs a command line over the real objects, and gives the code of how it ended.
@@ -379,7 +168,7 @@ fn run_over_system(
     let mut marks = RealMarks::new(SystemDirectory::new(marks, process), random, alloc);
     let mut spawner = RealSpawner::new(spawner, alloc, process);
     let files = RealFiles::new(SystemDirectory::new(files, process), alloc);
-    let Ran { ending, mut files } = run_over(
+    let Ran { ending, files } = run_over(
         alloc,
         caller.destination,
         &caller.words,
@@ -390,18 +179,15 @@ fn run_over_system(
         &mut net,
         &mut spawner,
     );
-    tell_more(
-        alloc,
-        caller,
-        &ending,
-        &mut files,
-        &marks,
-        out,
-        err,
-        &net,
-        &mut spawner,
-    );
-    ending.code
+    let mut objects = Objects {
+        files,
+        marks,
+        net,
+        spawner,
+        written: out.reason(alloc, "standard output"),
+    };
+    let _ = tell_ending(alloc, caller, &ending, &mut objects, err);
+    exit_code(&ending.status)
 }
 
 /// Runs the command line, and gives the code of how it ended. An error is that there was no memory.

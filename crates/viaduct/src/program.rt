@@ -5,14 +5,14 @@ ghost use Rattle.std.specs.Process.{exit_status};
 ghost use Rattle.vd_cmd_host.specs.Hosts.{nets_of};
 ghost use Rattle.vd_cmd_plan.specs.Lines.{Says, code_of, status_line};
 ghost use Rattle.vd_diag_terminal.specs.declared.telling.Destination.TheVariants.{File, Terminal};
-ghost use Rattle.viaduct.specs.Program.{IsRun, RunsOver, named_of};
+ghost use Rattle.viaduct.specs.Program.{IsRun, RunsOver};
 
 use std::alloc::{AllocError, Global};
 use std::process::ExitCode;
-use vd_base::{Name, Names, Texts};
+use vd_base::Texts;
 use vd_channel_net::SealedNet;
 use vd_cmd_driver::read_ahead;
-use vd_cmd_plan::{HostStatus, Status, tell};
+use vd_cmd_plan::{Status, tell};
 use vd_diag_terminal::{Destination, say_more};
 use vd_edge::{Directory, KeptFiles, RealFiles};
 use vd_outside::{Files, Net, Sink, Spawner};
@@ -52,38 +52,16 @@ pub(crate) fn destination_of(is_terminal: bool, coloured: bool) -> Destination
 }
 
 /// The code with which the process ends after a status.
-fn exit_code(status: &Status) -> ExitCode
+pub(crate) fn exit_code(status: &Status) -> ExitCode
     ensures { exit_status result ≡ code_of status.now }
 {
     ExitCode::from(status.code())
 }
 
-/// Whom a status names: the peer of a host, or the hosts of a run.
-#[derive(Drop)]
-pub(crate) enum Named {
-    Nobody,
-    Peer(Name),
-    Hosts(Names),
-}
-
-/// Whom a status names.
-fn named_of(status: Status) -> Named
-    ensures { result ≡ named_of status }
-{
-    match status {
-        Status::Host(HostStatus::PeerFault(name) | HostStatus::EndOfLink(name)) => Named::Peer(
-            name,
-        ),
-        Status::ChildFault(names, _) => Named::Hosts(names),
-        _ => Named::Nobody,
-    }
-}
-
-/// How a run ended: the code of its status, whom the status names, and how many packets the hosts of a `replay` sent.
+/// How a run ended, and how many packets the hosts of a `replay` sent.
 #[derive(Drop)]
 pub(crate) struct Ending {
-    pub code: ExitCode,
-    pub named: Named,
+    pub status: Status,
     pub packets: Option<u64>,
 }
 
@@ -110,7 +88,7 @@ fn run_program<F: Files, M: Marks, O: Sink, E: Sink, N: Net + Drop, S: Spawner>(
       nets = (nets_of (N.view net.old.net) net.old.ledger net.old.faults, nets_of (N.view net.new.net) net.new.ledger net.new.faults);
       spawner = (S.view spawner.old, S.view spawner.new);
       packets = (None, result.packets);
-    }) (exit_status result.code) result.named }
+    }) result.status }
 {
     let mut packets = None;
     let status = start(
@@ -127,11 +105,7 @@ fn run_program<F: Files, M: Marks, O: Sink, E: Sink, N: Net + Drop, S: Spawner>(
 
     // The line stands: where there is no memory to say more of it, no more is said.
     let _ = say_more(alloc, destination, words, files, err, &status);
-    Ending {
-        code: exit_code(&status),
-        named: named_of(status),
-        packets,
-    }
+    Ending { status, packets }
 }
 
 /// Says how a run ended that began nothing, and gives the code of that.
@@ -181,7 +155,7 @@ pub(crate) fn run_over<D: Directory + Drop, M: Marks, O: Sink, E: Sink, N: Net +
           nets = (nets_of (N.view net.old.net) net.old.ledger net.old.faults, nets_of (N.view net.new.net) net.new.ledger net.new.faults);
           spawner = (S.view spawner.old, S.view spawner.new);
           packets = result.ending.packets;
-        }) (exit_status result.ending.code) result.ending.named }
+        }) result.ending.status }
 {
     match read_ahead(alloc, words, files) {
         Ok(mut files) => {
@@ -201,13 +175,15 @@ pub(crate) fn run_over<D: Directory + Drop, M: Marks, O: Sink, E: Sink, N: Net +
                 files: Some(files),
             }
         }
-        Err(_) => Ran {
-            ending: Ending {
-                code: end(alloc, err, &Status::Memory),
-                named: Named::Nobody,
-                packets: None,
-            },
-            files: None,
-        },
+        Err(_) => {
+            tell(alloc, err, &Status::Memory);
+            Ran {
+                ending: Ending {
+                    status: Status::Memory,
+                    packets: None,
+                },
+                files: None,
+            }
+        }
     }
 }

@@ -2,12 +2,9 @@ use Rattle.viaduct.proofs.program.run_program.Goals as goal
 
 pub returns : goal.returns
 returns g c = record {
-  status = c.start-status.result;
   files = g.F.Files.view c.start-status.new.files;
   err = g.E.Sink.view c.start-status.new.err;
   starts = c.start-status.ensures;
   said = c.say_more.result;
   more = c.say_more.ensures;
-  ends = c.exit_code.ensures;
-  named = c.named_of.ensures;
 }
