@@ -1,4 +1,3 @@
-pub mod Front
 mod Happening
 mod Sealed
 mod Tried
