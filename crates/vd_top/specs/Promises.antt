@@ -56,7 +56,7 @@ pub record Keeps (words : List (List ℕ)) (o : Around) (status : Status) : Type
   pub counted : KeepsCount words o.files.0 o.packets.1 status
   pub reported : ReportsWords words o.files.0 o.files.1 o.out.0 o.out.1 o.spawner.0 o.spawner.1 status
 
--- What `start` promises. A lone word that asks for a text of the program's own gets that text, and no file is asked for; all other
+-- What `start` promises. Words that ask for a text of the program's own get that text, and no file is asked for; all other
 -- words are run. The error stream gets the line of the status.
 pub record Starts (words : List (List ℕ)) (o : Around) (status : Status) : Type 0 where
   pub own : (text : List ℕ) → own_text_of words ≡ Some text → Prints text o.out.0 o.out.1 status × (o.files.1 ≡ o.files.0)
