@@ -1,10 +1,22 @@
 # Completions of bash for viaduct. Its commands and what stands behind them are those that `viaduct --help` prints.
+
+# Offers the files of these endings that begin with the word, and folders.
+_viaduct_files() {
+  local ending
+  compopt -o filenames 2> /dev/null
+  mapfile -t COMPREPLY < <(for ending in "$@"; do compgen -f -X "!*.$ending" -- "$word"; done; compgen -d -- "$word")
+}
+
 _viaduct() {
   local word=${COMP_WORDS[COMP_CWORD]} help form wanted
   COMPREPLY=()
   help=$("${COMP_WORDS[0]}" --help 2> /dev/null) || return
   if [ "$COMP_CWORD" -eq 1 ]; then
-    mapfile -t COMPREPLY < <(compgen -W "$(sed -n 's/^  viaduct \([a-z-]*\).*/\1/p' <<< "$help")" -- "$word")
+    mapfile -t COMPREPLY < <(compgen -W "$(sed -n 's/^  viaduct \([a-z-][a-z-]*\).*/\1/p' <<< "$help")" -- "$word")
+    return
+  fi
+  if [ "$COMP_CWORD" -eq 2 ] && [[ $word == -* && ${COMP_WORDS[1]} != -* ]]; then
+    mapfile -t COMPREPLY < <(compgen -W --help -- "$word")
     return
   fi
   read -r -a form < <(sed -n "s/^  viaduct ${COMP_WORDS[1]//[^a-z-]/} //p" <<< "$help" | sed 's/  .*//')
@@ -21,10 +33,12 @@ _viaduct() {
       mapfile -t COMPREPLY < <(compgen -W early -- "$word") ;;
     KEY)
       mapfile -t COMPREPLY < <(compgen -W draw -- "$word") ;;
-    SOURCE)
-      compopt -o filenames 2> /dev/null
-      mapfile -t COMPREPLY < <(compgen -f -X '!*.via' -- "$word"; compgen -d -- "$word") ;;
-    FILE | INPUTS | INPUTS2 | CERT | PREFIX | OUT | SCHEDULE | PROGRAM | DEAL | SELF)
+    SOURCE) _viaduct_files via ;;
+    PROGRAM) _viaduct_files host ;;
+    DEAL) _viaduct_files deal ;;
+    CERT) _viaduct_files cert ;;
+    FILE) _viaduct_files via host ;;
+    INPUTS | INPUTS2 | PREFIX | OUT | SCHEDULE | SELF)
       compopt -o filenames 2> /dev/null
       mapfile -t COMPREPLY < <(compgen -f -- "$word") ;;
   esac
