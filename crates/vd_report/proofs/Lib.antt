@@ -11,3 +11,5 @@ mod FurtherHost
 mod InputsFurther
 mod InputsFaults
 mod Members
+mod LineWords
+mod LinksRead

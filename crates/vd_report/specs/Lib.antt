@@ -9,3 +9,5 @@ pub mod InputsText
 pub mod ScheduleText
 pub mod ReportLines
 pub mod ChoiceLines
+pub mod LineWords
+pub mod LinksRead
