@@ -3,3 +3,4 @@ mod Reading
 mod Answered
 mod Told
 mod Sure
+mod ReadBack
