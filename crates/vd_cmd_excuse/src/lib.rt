@@ -4,6 +4,8 @@
 mod answer;
 mod checks;
 mod excuse_command;
+mod laws;
 mod runs;
 
 pub use excuse_command::excuse;
+pub use laws::talk_names_the_sender;
