@@ -3,3 +3,4 @@ mod Existing
 mod Naming
 mod Told
 mod Influence
+mod ReadBack

@@ -2,3 +2,4 @@ pub mod Outcomes
 pub mod Depending
 pub mod Telling
 pub mod Influencing
+pub mod ReadBack

@@ -6,10 +6,12 @@ ghost use Rattle.vd_cmd_depends.specs.Outcomes.{DependenceOutcomes};
 
 mod depends_command;
 mod influences_command;
+mod laws;
 mod line;
 
 pub use depends_command::{depends, host_named};
 pub use influences_command::influences;
+pub use laws::lines_name_hosts;
 
 /// Each host of a labelled program depends on one set of hosts, so there is a function for the clauses to speak of.
 pub fn dependence_outcomes_exist()
