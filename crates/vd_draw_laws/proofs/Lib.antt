@@ -1,3 +1,5 @@
+mod Heading
+mod Legends
 mod Adding
 mod Arrows
 mod Coming

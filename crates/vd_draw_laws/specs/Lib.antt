@@ -1,2 +1,4 @@
 pub mod Together
 pub mod Showing
+pub mod Legends
+pub mod Heading

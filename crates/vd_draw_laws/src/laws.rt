@@ -1,5 +1,7 @@
 //! Laws of drawings. The functions here do nothing: their contracts are laws.
 
+ghost use Rattle.vd_draw_laws.specs.Heading.{HeadingTellsCost};
+ghost use Rattle.vd_draw_laws.specs.Legends.{ArrowsAreToldApart};
 ghost use Rattle.vd_draw_laws.specs.Together.{DrawnCostsAddUp};
 ghost use Rattle.vd_draw_laws.specs.Showing.{ArrowsShow, ToldWordsCome};
 
@@ -18,4 +20,15 @@ pub fn arrows_show_what_is_told()
 /// the words that moves tell it. An arrow shows the host each of them.
 pub fn told_words_come()
     ensures { ToldWordsCome }
+{}
+
+/// The legend says that the other host reads the word of just those arrows that bring a host the word in clear, and these alone
+/// are drawn in its classes. Two kinds of arrows differ in how they look and in what the legend says.
+pub fn arrows_are_told_apart()
+    ensures { ArrowsAreToldApart }
+{}
+
+/// The words of the heading begin with `cost` and what all rows cost, and then tell how many slots there are.
+pub fn heading_tells_the_cost()
+    ensures { HeadingTellsCost }
 {}

@@ -4,4 +4,7 @@
 
 mod laws;
 
-pub use laws::{arrows_show_what_is_told, drawn_costs_add_up, told_words_come};
+pub use laws::{
+    arrows_are_told_apart, arrows_show_what_is_told, drawn_costs_add_up, heading_tells_the_cost,
+    told_words_come,
+};
