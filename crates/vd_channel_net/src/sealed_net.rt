@@ -115,6 +115,7 @@ fn meet_over<N: Net>(
     requires key { IsKeyFor seal.old.me.0 seal.old.secrets peer.0 key.now }
     requires number { seal.old.tried < u32.MAX }
     ensures given { (N.view net.new).given ≡ (N.view net.old).given }
+    ensures limit { (N.view net.new).limit ≡ (N.view net.old).limit }
     ensures kept { Tries seal.old seal.new }
     ensures counted { seal.new.tried ≡ seal.old.tried + 1 }
     ensures fresh { IfOk result (λ link. link.session.faults ≡ 0) }
@@ -147,6 +148,7 @@ fn accept_sealed<N: Net>(
 ) -> Result<SealedLink<N::Link>, CallFault>
     requires { listener < (N.view net.old).given }
     ensures given { (N.view net.new).given ≡ (N.view net.old).given }
+    ensures limit { (N.view net.new).limit ≡ (N.view net.old).limit }
     ensures kept { Tries seal.old seal.new }
     ensures fresh { IfOk result (λ link. link.session.faults ≡ 0) }
     ensures met { IfOk result (λ link. (came : LinkView) ×
@@ -182,6 +184,7 @@ fn connect_sealed<N: Net>(
     address: &str,
 ) -> Result<SealedLink<N::Link>, CallFault>
     ensures given { (N.view net.new).given ≡ (N.view net.old).given }
+    ensures limit { (N.view net.new).limit ≡ (N.view net.old).limit }
     ensures kept { Tries (next_asked seal.old) seal.new }
     ensures fresh { IfOk result (λ link. link.session.faults ≡ 0) }
     ensures met { IfOk result (λ link. (came : LinkView) ×
@@ -218,15 +221,13 @@ impl<N: Net + Drop> Net for SealedNet<N> {
     // Who a peer is, is known by its proof.
     ghost greets = { λ link greeting. ⊤ };
 
-    ghost has_limit = { λ net seconds. N.has_limit net.net seconds };
-
     fn faults(&self) -> u64 {
         self.faults
     }
 
     fn wait_at_most(&mut self, seconds: Option<u32>)
-        ensures same { sealing (N.view self.new.net) self.new.faults ≡ sealing (N.view self.old.net) self.old.faults }
-        ensures limited { N.has_limit self.new.net seconds }
+        ensures limited { sealing (N.view self.new.net) self.new.faults ≡
+            record (sealing (N.view self.old.net) self.old.faults) { limit = seconds } }
         ensures below { N.view self.new.net ≡ N.view self.old.net }
         ensures seal { self.new.seal ≡ self.old.seal }
         ensures ledger { self.new.ledger ≡ self.old.ledger }

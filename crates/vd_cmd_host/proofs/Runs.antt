@@ -11,14 +11,14 @@ use Rattle.vd_host_session.specs.Laws.{AsksFrontOf, ComesBack, HasCause, calls_o
 use Rattle.vd_host_session.specs.declared.fault.HostFault.{HostFault}
 use Rattle.vd_host_session.specs.declared.fault.HostFault.TheVariants as fault
 use Rattle.vd_host_session.specs.declared.task.Task.{Task}
-use Rattle.vd_host_session.proofs.Front.{in_order, causes, links_come_back}
+use Rattle.vd_host_session.proofs.Front.{in_order, causes, limit_stays, links_come_back}
 use Rattle.vd_host_start.specs.Starts.{Starts}
 use Rattle.vd_host_start.specs.declared.starting.Ready.{Ready}
 use Rattle.vd_cmd_plan.specs.declared.status.Status.{Status}
 use Rattle.vd_cmd_plan.specs.declared.status.HostStatus.TheVariants as host_status
 use Rattle.vd_cmd_plan.specs.declared.status.Status.TheVariants as status
-use Rattle.vd_cmd_host.specs.Hosts.{PlainRuns, NotLoaded, NotReady, RanWell, RanWrong, RunsLoaded, WentWell, WentWrong}
-use Rattle.vd_cmd_host.specs.Laws.{AsksFor, HostsAskInOrder, LinksComeBack, StatusesHaveCauses, calls_for, task_of}
+use Rattle.vd_cmd_host.specs.Hosts.{PlainRuns, NotLoaded, NotReady, RanWell, RanWrong, RunsLoaded, WentWell, WentWrong, within}
+use Rattle.vd_cmd_host.specs.Laws.{AsksFor, HostsAskInOrder, LinksComeBack, StatusesHaveCauses, WaitsAreLimited, calls_for, task_of}
 use Rattle.vd_cmd_host.specs.Laws as laws
 use Rattle.vd_cmd_host.specs.Loading.{LoadsHost}
 use Rattle.vd_cmd_host.specs.Statuses.{status_of}
@@ -65,11 +65,11 @@ loaded_asks : (words : HostWords) (loaded : Loaded) (net net_now : NetView) (out
     → RunsLoaded words loaded net net_now out out_now result → (net_now ≡ net) ⊎ Asks words loaded.program net net_now result
 loaded_asks words loaded net net_now out out_now told (NotReady same_net same_out) = inl same_net
 loaded_asks words loaded net net_now out out_now told (RanWell ready done starts can plays) =
-    let asked = in_order ready.machine ready.task net net_now out out_now (Ok done) plays told in
+    let asked = in_order ready.machine ready.task (within words net) net_now out out_now (Ok done) plays told in
     let same = same_task loaded.program words loaded.inputs loaded ready starts in
     inr (subst (λ (t : Task). AsksFrontOf (calls_of t net.given) net net_now) same asked.0, subst (λ (t : Task). net_now.asked ≡ net.asked ++ calls_of t net.given) same asked.1, tt)
 loaded_asks words loaded net net_now out out_now told (RanWrong ready cause starts can plays) =
-    let asked = in_order ready.machine ready.task net net_now out out_now (Err cause) plays told in
+    let asked = in_order ready.machine ready.task (within words net) net_now out out_now (Err cause) plays told in
     let same = same_task loaded.program words loaded.inputs loaded ready starts in
     inr (subst (λ (t : Task). AsksFrontOf (calls_of t net.given) net net_now) same asked.0, tt, never_ended loaded.program.hosts cause)
 
@@ -101,7 +101,7 @@ loaded_cause : (words : HostWords) (loaded : Loaded) (files files_now : FilesVie
 loaded_cause words loaded files files_now net net_now out out_now (NotReady same_net same_out) = tt
 loaded_cause words loaded files files_now net net_now out out_now (RanWell ready done starts can plays) = tt
 loaded_cause words loaded files files_now net net_now out out_now (RanWrong ready cause starts can plays) =
-    cause_of files files_now net net_now out out_now loaded.program.hosts cause (causes ready.machine ready.task net net_now out out_now (Err cause) can.few can.own plays)
+    cause_of files files_now net net_now out out_now loaded.program.hosts cause (causes ready.machine ready.task (within words net) net_now out out_now (Err cause) can.few can.own plays)
 
 pub have_causes : StatusesHaveCauses
 have_causes words files files_now net net_now out out_now end runs = by runs
@@ -116,11 +116,17 @@ have_causes words files files_now net net_now out out_now end runs = by runs
 nothing_given : (net net_now : NetView) → net_now ≡ net → ComesBack net net_now
 nothing_given net net_now same = record { handed = []; back = ap (λ (n : NetView). n.back) same ∙ sym (append-nil net.back); counted = let links = ap (λ (n : NetView). n.links) same in omega (arith, links) }
 
+-- a limit on waits changes nothing of the links
+same_back : (words : HostWords) (net net_now : NetView) → ComesBack (within words net) net_now → ComesBack net net_now
+same_back words net net_now comes = record { handed = comes.handed; back = comes.back; counted = comes.counted }
+
 loaded_back : (words : HostWords) (loaded : Loaded) (net net_now : NetView) (out out_now : SinkView) → IsTrue net.told → length net.back ≤ net.links → {result : Result (Unit {0}) Status}
     → RunsLoaded words loaded net net_now out out_now result → ComesBack net net_now
 loaded_back words loaded net net_now out out_now told room (NotReady same_net same_out) = nothing_given net net_now same_net
-loaded_back words loaded net net_now out out_now told room (RanWell ready done starts can plays) = links_come_back ready.machine ready.task net net_now out out_now (Ok done) can.few can.own plays told room
-loaded_back words loaded net net_now out out_now told room (RanWrong ready cause starts can plays) = links_come_back ready.machine ready.task net net_now out out_now (Err cause) can.few can.own plays told room
+loaded_back words loaded net net_now out out_now told room (RanWell ready done starts can plays) =
+    same_back words net net_now (links_come_back ready.machine ready.task (within words net) net_now out out_now (Ok done) can.few can.own plays told room)
+loaded_back words loaded net net_now out out_now told room (RanWrong ready cause starts can plays) =
+    same_back words net net_now (links_come_back ready.machine ready.task (within words net) net_now out out_now (Err cause) can.few can.own plays told room)
 
 pub come_back : LinksComeBack
 come_back words files files_now net net_now out out_now end runs told room = by runs
@@ -129,3 +135,13 @@ come_back words files files_now net net_now out out_now end runs told room = by 
     by (NotLoaded refusal loads same_net same_out) = nothing_given net net_now same_net
     by (WentWell loaded loads is plain ran) = loaded_back words loaded net net_now out out_now told room ran
     by (WentWrong loaded refusal loads is plain ran) = loaded_back words loaded net net_now out out_now told room ran
+
+-- ---- waits
+
+pub stay_limited : WaitsAreLimited
+stay_limited words loaded net net_now out out_now result runs = by runs
+  where
+    by : {result : Result (Unit {0}) Status} → RunsLoaded words loaded net net_now out out_now result → (net_now ≡ net) ⊎ (net_now.limit ≡ words.limit)
+    by (NotReady same_net same_out) = inl same_net
+    by (RanWell ready done starts can plays) = inr (limit_stays ready.machine ready.task (within words net) net_now out out_now (Ok done) plays)
+    by (RanWrong ready cause starts can plays) = inr (limit_stays ready.machine ready.task (within words net) net_now out out_now (Err cause) plays)

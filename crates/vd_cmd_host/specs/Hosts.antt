@@ -24,14 +24,18 @@ use Rattle.vd_cmd_host.specs.Statuses.{status_of}
 use Rattle.vd_cmd_host.specs.declared.loading.Loaded.{Loaded}
 use Rattle.vd_cmd_host.specs.declared.marking.Claimed.{Claimed}
 
--- A host whose files were read is run over the net, and how it ends is how the command does. Where there is no memory to
--- make it ready, nothing was asked and nothing written.
+-- the same net, where no wait for another host is longer than the words allow
+abbrev pub within : HostWords → NetView → NetView
+within words net = record net { limit = words.limit }
+
+-- A host whose files were read is run over the net, whose waits are as long as the words allow, and how it ends is how the command does.
+-- Where there is no memory to make it ready, nothing was asked and nothing written.
 pub data RunsLoaded (words : HostWords) (loaded : Loaded) (net net_now : NetView) (out out_now : SinkView) : Result (Unit {0}) Status → Type 0 where
   NotReady : net_now ≡ net → out_now ≡ out → RunsLoaded words loaded net net_now out out_now (Err status.Memory)
   RanWell : (ready : Ready) (done : Ended) → Starts loaded.program loaded.inputs loaded.dealt.deal words.addresses ready → CanPlay ready
-      → Plays ready.machine ready.task net net_now out out_now (Ok done) → RunsLoaded words loaded net net_now out out_now (Ok tt)
+      → Plays ready.machine ready.task (within words net) net_now out out_now (Ok done) → RunsLoaded words loaded net net_now out out_now (Ok tt)
   RanWrong : (ready : Ready) (fault : HostFault) → Starts loaded.program loaded.inputs loaded.dealt.deal words.addresses ready → CanPlay ready
-      → Plays ready.machine ready.task net net_now out out_now (Err fault) → RunsLoaded words loaded net net_now out out_now (Err (status_of loaded.program.hosts fault))
+      → Plays ready.machine ready.task (within words net) net_now out out_now (Err fault) → RunsLoaded words loaded net net_now out out_now (Err (status_of loaded.program.hosts fault))
 
 -- With a deal of version 1: the files are loaded and the host is run; or they are not, and nothing was asked of the net and nothing written.
 pub data PlainRuns (words : HostWords) (files files_now : FilesView) (net net_now : NetView) (out out_now : SinkView) : Status → Type 0 where

@@ -1,5 +1,5 @@
 -- What holds of each run of the command, whatever becomes of it.
-use Rattle.std.specs.Prelude.{◌≡◌, ◌≤◌, ◌⊎◌, ◌++◌, ℕ, IsTrue, List, length, Ok}
+use Rattle.std.specs.Prelude.{◌≡◌, ◌≤◌, ◌⊎◌, ◌++◌, ℕ, IsTrue, List, length, Result, Ok}
 use Rattle.vd_outside.specs.Causes.{Rose}
 use Rattle.vd_outside.specs.Files.{FilesView}
 use Rattle.vd_outside.specs.Net.{NetView}
@@ -12,7 +12,7 @@ use Rattle.vd_host_session.specs.declared.task.Task.{Task}
 use Rattle.vd_cmd_plan.specs.declared.status.HostStatus.TheVariants as host_status
 use Rattle.vd_cmd_plan.specs.declared.status.Status.{Status}
 use Rattle.vd_cmd_plan.specs.declared.status.Status.TheVariants as status
-use Rattle.vd_cmd_host.specs.Hosts.{PlainRuns}
+use Rattle.vd_cmd_host.specs.Hosts.{PlainRuns, RunsLoaded}
 use Rattle.vd_cmd_host.specs.Loading.{LoadsHost}
 use Rattle.vd_cmd_host.specs.declared.loading.Loaded.{Loaded}
 
@@ -59,3 +59,10 @@ StatusesHaveCauses = OfEachRun (λ words files files_now net net_now out out_now
 -- Each link that was given comes back.
 abbrev pub LinksComeBack : Type 0
 LinksComeBack = OfEachRun (λ words files files_now net net_now out out_now end. IsTrue net.told → length net.back ≤ net.links → ComesBack net net_now)
+
+-- ---- waits
+
+-- Over a net or over one that seals its links: from before the first call until the end no wait for another host is longer than the words allow.
+abbrev pub WaitsAreLimited : Type 0
+WaitsAreLimited = (words : HostWords) (loaded : Loaded) (net net_now : NetView) (out out_now : SinkView) (result : Result (Unit {0}) Status)
+    → RunsLoaded words loaded net net_now out out_now result → (net_now ≡ net) ⊎ (net_now.limit ≡ words.limit)

@@ -29,7 +29,6 @@ fn run_marked<M: Marks, N: Net + Drop, O: Sink>(
 ) -> Status
     requires room { (N.view net.old.net).given ≤ 4294967000 }
     requires loaded { IsLoaded words.now loaded }
-    requires limited { N.has_limit net.old.net words.now.limit }
     requires dealt { loaded.dealt.secrets ≡ Some secrets }
     ensures { EndsMarked words.now loaded secrets (M.view marks.old) (M.view marks.new)
         (nets_of (N.view net.old.net) net.old.ledger net.old.faults) (nets_of (N.view net.new.net) net.new.ledger net.new.faults)
@@ -68,7 +67,6 @@ fn run_dealt<M: Marks, N: Net + Drop, O: Sink>(
 ) -> Status
     requires room { (N.view net.old.net).given ≤ 4294967000 }
     requires loaded { IsLoaded words.now loaded }
-    requires limited { N.has_limit net.old.net words.now.limit }
     ensures { (before now : FilesView) → LoadsHost words.now before now (Ok loaded) →
         HostRuns words.now before now (M.view marks.old) (M.view marks.new)
         (nets_of (N.view net.old.net) net.old.ledger net.old.faults) (nets_of (N.view net.new.net) net.new.ledger net.new.faults)
@@ -100,9 +98,6 @@ pub fn host<F: Files, M: Marks, N: Net + Drop, O: Sink>(
 {
     match load_host(alloc, files, words) {
         Err(status) => status,
-        Ok(loaded) => {
-            net.net.wait_at_most(words.limit);
-            run_dealt(alloc, marks, net, out, words, loaded)
-        }
+        Ok(loaded) => run_dealt(alloc, marks, net, out, words, loaded),
     }
 }

@@ -1,6 +1,6 @@
 //! What holds of each run of the command, and the first three of those with a deal of version 1. Nothing is computed here: the functions' clauses are laws.
 
-ghost use Rattle.vd_cmd_host.specs.Laws.{HostsAskInOrder, LinksComeBack, StatusesHaveCauses};
+ghost use Rattle.vd_cmd_host.specs.Laws.{HostsAskInOrder, LinksComeBack, StatusesHaveCauses, WaitsAreLimited};
 ghost use Rattle.vd_cmd_host.specs.Once.{DealsAreUsedOnce, MarksStandByDeals, MarksTell, NamesAreApart, NoDealServesTwice, UsedDealsStayMarked};
 
 /// A net is asked for a prefix of the host's calls and for no other: for all with status 0, and for none where the files were
@@ -18,6 +18,11 @@ pub fn statuses_have_causes()
 /// Whatever the status is, each link that was given comes back to a net that tells them.
 pub fn links_come_back()
     ensures { LinksComeBack }
+{}
+
+/// A host that is run over a net, with sealed links or without, waits for no other host for longer than its words allow.
+pub fn waits_are_limited()
+    ensures { WaitsAreLimited }
 {}
 
 /// Where something may have gone out over a sealed link behind its greeting, the deal is of version 2, and its mark was not there before and is

@@ -11,5 +11,5 @@ mod statuses;
 pub use host_command::host;
 pub use laws::{
     deals_are_used_once, hosts_ask_in_order, links_come_back, marks_are_apart,
-    no_deal_serves_twice, statuses_have_causes,
+    no_deal_serves_twice, statuses_have_causes, waits_are_limited,
 };

@@ -41,7 +41,7 @@ fn names_of(alloc: Global, names: &Names) -> Result<Names, AllocError>
     Ok(list)
 }
 
-/// Runs a host whose files were read, over a net whose waits are as long as its words allow.
+/// Runs a host whose files were read. No wait for a peer is longer than its words allow.
 fn run_loaded<N: Net, O: Sink>(
     alloc: Global,
     net: &mut N,
@@ -51,7 +51,6 @@ fn run_loaded<N: Net, O: Sink>(
 ) -> Result<(), Status>
     requires room { (N.view net.old).given ≤ 4294967000 }
     requires loaded { IsLoaded words.now loaded }
-    requires limited { N.has_limit net.old words.now.limit }
     ensures { RunsLoaded words.now loaded (N.view net.old) (N.view net.new) (O.view out.old) (O.view out.new) result }
 {
     let Loaded {
@@ -62,6 +61,7 @@ fn run_loaded<N: Net, O: Sink>(
     let names = names_of(alloc, &program.hosts)?;
     let addresses = copies(alloc, words.addresses.as_slice())?;
     let Ready { task, machine } = start(alloc, program, inputs, dealt.deal, addresses)?;
+    net.wait_at_most(words.limit);
     match play(alloc, net, out, &task, machine) {
         Ok(_) => Ok(()),
         Err(fault) => Err(status_of(names, fault)),
@@ -88,7 +88,6 @@ pub(crate) fn run_plain<N: Net + Drop, O: Sink>(
 ) -> Status
     requires room { (N.view net.old.net).given ≤ 4294967000 }
     requires loaded { IsLoaded words.now loaded }
-    requires limited { N.has_limit net.old.net words.now.limit }
     requires plain { loaded.dealt.secrets ≡ None }
     ensures runs { (before now : FilesView) → LoadsHost words.now before now (Ok loaded) →
         PlainRuns words.now before now (N.view net.old.net) (N.view net.new.net) (O.view out.old) (O.view out.new) result }
@@ -110,7 +109,6 @@ pub(crate) fn run_sealed<N: Net + Drop, O: Sink>(
 ) -> Result<(), Status>
     requires room { (N.view net.old.net).given ≤ 4294967000 }
     requires loaded { IsLoaded words.now loaded }
-    requires limited { N.has_limit net.old.net words.now.limit }
     requires sealed { IsSealedFor loaded _claimed.now.seed net.old.seal }
     ensures { RunsLoaded words.now loaded (sealing (N.view net.old.net) net.old.faults) (sealing (N.view net.new.net) net.new.faults)
         (O.view out.old) (O.view out.new) result }

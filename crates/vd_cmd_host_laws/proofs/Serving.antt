@@ -16,19 +16,26 @@ use Rattle.vd_host_start.specs.Starts.{Starts}
 use Rattle.vd_host_start.specs.declared.starting.Ready.{Ready}
 use Rattle.vd_cmd_plan.specs.declared.status.Status.{Status}
 use Rattle.vd_cmd_plan.specs.declared.status.Status.TheVariants as status
-use Rattle.vd_cmd_host.specs.Hosts.{PlainRuns, NotLoaded, NotReady, RanWell, RanWrong, RunsLoaded, WentWell, WentWrong}
+use Rattle.vd_cmd_host.specs.Hosts.{PlainRuns, NotLoaded, NotReady, RanWell, RanWrong, RunsLoaded, WentWell, WentWrong, within}
 use Rattle.vd_cmd_host.specs.Laws.{task_of}
 use Rattle.vd_cmd_host.specs.Loading.{LoadsHost}
 use Rattle.vd_cmd_host.specs.Statuses.{status_of}
 use Rattle.vd_cmd_host.specs.declared.loading.Loaded.{Loaded}
+use Rattle.vd_engine.specs.Drives.{Sessions}
 use Rattle.vd_cmd_host_laws.specs.Serving.{AllServe, IsQuiet, IsServed, ServedHostsEndWell, lists_of}
 use Rattle.vd_cmd_host_laws.proofs.Ending.{IsServedAt, served_plays}
 use Rattle.vd_cmd_host_laws.proofs.Files.{not_refused, plan_length, same_loaded}
 
+-- a limit on waits changes nothing of what is served
+same_served : (words : HostWords) (task : Task) (net : NetView) (sessions : Sessions) → AllServe task net sessions → AllServe task (within words net) sessions
+same_served words task net sessions serve place there =
+    let serves = serve place there in
+    record { link = serves.link; waits = serves.waits; session = serves.session; stands = serves.stands; comes = serves.comes }
+
 module _ (words : HostWords) (files files_now : FilesView) (net net_now : NetView) (out out_now : SinkView) (net_told : IsTrue net.told) (room : length net.back ≤ net.links)
     (quiet : IsQuiet files files_now net net_now out out_now) (is : IsServed words files.contents net) where
   -- the host that was made ready is the one that is served
-  served_at : (loaded : Loaded) (ready : Ready) → loaded ≡ is.loaded → Starts loaded.program loaded.inputs loaded.dealt.deal words.addresses ready → IsServedAt ready.task ready.machine net
+  served_at : (loaded : Loaded) (ready : Ready) → loaded ≡ is.loaded → Starts loaded.program loaded.inputs loaded.dealt.deal words.addresses ready → IsServedAt ready.task ready.machine (within words net)
   served_at loaded ready same starts =
       let its_task : ready.task ≡ task_of loaded.program words.addresses = λ j. record { me = starts.me j; plan = starts.plan j; addresses = starts.addresses_are j } in
       let its_lists : ready.machine.lists ≡ lists_of loaded = λ j. record { inputs = starts.inputs_are j; deal = starts.deal_is j } in
@@ -39,7 +46,7 @@ module _ (words : HostWords) (files files_now : FilesView) (net net_now : NetVie
         plan = subst (λ (t : Task). length t.plan ≡ 32) task (plan_length is.held.program.bytes is.loaded.program is.held.program.holds);
         listeners = is.listeners;
         sessions = is.sessions;
-        peers = subst (λ (t : Task). AllServe t net is.sessions) task is.peers;
+        peers = same_served words ready.task net is.sessions (subst (λ (t : Task). AllServe t net is.sessions) task is.peers);
         enough = subst (λ (s : State). IsEnough ready.machine.lists s is.sessions) state (subst (λ (l : Lists). IsEnough l (at_start is.code) is.sessions) lists is.enough);
       }
 
@@ -47,7 +54,7 @@ module _ (words : HostWords) (files files_now : FilesView) (net net_now : NetVie
   ran loaded same (NotReady same_net same_out) = refl
   ran loaded same (RanWell ready done starts can plays) = tt
   ran loaded same (RanWrong ready cause starts can plays) =
-      let memory : cause ≡ fault.Memory = served_plays ready.task ready.machine net net_now out out_now (Err cause) can.few can.own net_told room (served_at loaded ready same starts)
+      let memory : cause ≡ fault.Memory = served_plays ready.task ready.machine (within words net) net_now out out_now (Err cause) can.few can.own net_told room (served_at loaded ready same starts)
       quiet.no_peer quiet.no_write quiet.all_tell plays in
       ap (status_of loaded.program.hosts) memory
 

@@ -131,6 +131,7 @@ listens_a = record {
   failed = λ is. absurd (subst WentWell is tt);
   number = (refl, refl);
   none_given = tt;
+  limit = refl;
   still_told = λ told. told;
   asked = λ told. refl;
   links = λ told. record { waiting = refl; otherwise = refl; links = refl; back = refl };
@@ -143,6 +144,7 @@ accepts_a = record {
   later = omega arith;
   failed = λ is. absurd (subst WentWell is tt);
   fresh = refl;
+  limit = refl;
   listeners = record { given = refl; listeners = λ told. refl };
   still_told = λ told. told;
   asked = λ told. refl;
@@ -155,6 +157,7 @@ connects_b = record {
   later = omega arith;
   failed = λ is. absurd (subst WentWell is tt);
   fresh = refl;
+  limit = refl;
   listeners = record { given = refl; listeners = λ told. refl };
   still_told = λ told. told;
   asked = λ told. refl;
@@ -189,6 +192,7 @@ hangs_a = record {
   later = omega arith;
   link_failed = λ lt. absurd (omega (arith, lt));
   never_failed = λ is. refl;
+  limit = refl;
   listeners = record { given = refl; listeners = λ told. refl };
   still_told = λ told. told;
   asked = λ told. refl;
@@ -203,6 +207,7 @@ hangs_b = record {
   later = omega arith;
   link_failed = λ lt. absurd (omega (arith, lt));
   never_failed = λ is. refl;
+  limit = refl;
   listeners = record { given = refl; listeners = λ told. refl };
   still_told = λ told. told;
   asked = λ told. refl;

@@ -137,7 +137,7 @@ later_b = link_with [] greeting_b
 
 -- a net at which a link waits, that was asked for nothing
 abbrev pub fresh_net : LinkView → NetView
-fresh_net link = record { told = true; given = 0; listeners = []; waiting = (address, link) ∷ []; otherwise = None; links = 0; back = []; asked = []; faults = 0 }
+fresh_net link = record { told = true; given = 0; limit = None; listeners = []; waiting = (address, link) ∷ []; otherwise = None; links = 0; back = []; asked = []; faults = 0 }
 
 -- host a listens and accepts
 abbrev pub listening_a : NetView

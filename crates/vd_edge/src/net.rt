@@ -64,11 +64,9 @@ impl<N: Sockets + Drop> RealNet<N> {
 impl<N: Sockets + Drop> Net for RealNet<N> {
     type Link = RealLink<N::Stream>;
 
-    ghost view = { λ net. net_view (vec_len net.listeners) net.faults };
+    ghost view = { λ net. net_view (vec_len net.listeners) (N.limit net.sockets) net.faults };
 
     ghost greets = { λ link greeting. N.greets link.stream greeting };
-
-    ghost has_limit = { λ net seconds. N.has_limit net.sockets seconds };
 
     fn faults(&self) -> u64 {
         self.faults
@@ -81,8 +79,8 @@ impl<N: Sockets + Drop> Net for RealNet<N> {
 
     fn listen(&mut self, address: &str) -> Result<u32, CallFault>
         requires { vec_len self.old.listeners < u32.MAX }
-        ensures listens { Listens address.now (net_view (vec_len self.old.listeners) self.old.faults)
-            (net_view (vec_len self.new.listeners) self.new.faults) result }
+        ensures listens { Listens address.now (net_view (vec_len self.old.listeners) (N.limit self.old.sockets) self.old.faults)
+            (net_view (vec_len self.new.listeners) (N.limit self.new.sockets) self.new.faults) result }
         ensures at_address { OnOk result ((listener : N.Listener) ×
             (self.new.listeners.items ≡ self.old.listeners.items ++ listener ∷ []) × N.listens_at listener address.now) }
     {
@@ -104,8 +102,8 @@ impl<N: Sockets + Drop> Net for RealNet<N> {
 
     fn accept(&mut self, listener: u32, greeting: &[u8]) -> Result<RealLink<N::Stream>, CallFault>
         requires { listener < vec_len self.old.listeners }
-        ensures accepts { Accepts listener (net_view (vec_len self.old.listeners) self.old.faults)
-            (net_view (vec_len self.new.listeners) self.new.faults)
+        ensures accepts { Accepts listener (net_view (vec_len self.old.listeners) (N.limit self.old.sockets) self.old.faults)
+            (net_view (vec_len self.new.listeners) (N.limit self.new.sockets) self.new.faults)
             (result_map_both (λ link. link_view (N.Stream.view link.stream) link.ended link.faults) (λ fault. fault) result) }
         ensures came { (asked : N.Listener) → slice_get self.old.listeners.items listener ≡ Some asked →
             IfOk result (λ link. N.came_to link.stream asked) }
@@ -126,8 +124,8 @@ impl<N: Sockets + Drop> Net for RealNet<N> {
     }
 
     fn connect(&mut self, address: &str) -> Result<RealLink<N::Stream>, CallFault>
-        ensures connects { Connects address.now (net_view (vec_len self.old.listeners) self.old.faults)
-            (net_view (vec_len self.new.listeners) self.new.faults)
+        ensures connects { Connects address.now (net_view (vec_len self.old.listeners) (N.limit self.old.sockets) self.old.faults)
+            (net_view (vec_len self.new.listeners) (N.limit self.new.sockets) self.new.faults)
             (result_map_both (λ link. link_view (N.Stream.view link.stream) link.ended link.faults) (λ fault. fault) result) }
         ensures leads { IfOk result (λ link. N.leads_to link.stream address.now) }
     {

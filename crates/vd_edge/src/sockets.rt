@@ -27,12 +27,12 @@ pub trait Sockets {
     /// A stream leads to an address.
     ghost leads_to: { Self.Stream → List ℕ → Type 0 };
 
-    /// No wait is longer than so many seconds, where there is such a limit.
-    ghost has_limit: { Self → Option ℕ → Type 0 };
+    /// For how many seconds at most each wait lasts, where there is such a limit.
+    ghost limit: { Self → Option ℕ };
 
     /// Lets no wait be longer than so many seconds from now on, also on the streams that are then given.
     fn wait_at_most(&mut self, seconds: Option<u32>)
-        ensures { has_limit self.new seconds };
+        ensures { limit self.new ≡ seconds };
 
     /// Listens at an address.
     fn listen(&self, address: &str) -> io::Result<Self::Listener>
@@ -368,7 +368,7 @@ impl<R: Network + Clock + Drop> Sockets for SystemSockets<R> {
 
     ghost leads_to = { λ stream address. ⊤ };
 
-    ghost has_limit = { λ sockets seconds. sockets.waits.seconds ≡ seconds };
+    ghost limit = { λ sockets. sockets.waits.seconds };
 
     fn wait_at_most(&mut self, seconds: Option<u32>) {
         self.waits = self.waits.within(seconds);

@@ -78,6 +78,7 @@ connects address fails before now (Ok link) gives =
       later = omega arith;
       failed = search rules;
       fresh = gives.1;
+      limit = refl;
       listeners = record { given = refl; listeners = λ told. refl };
       still_told = λ told. told;
       asked = λ told. refl;
@@ -89,6 +90,7 @@ connects address fails before now (Err call_fault.Failed) gives =
       later = subst (λ (net : MemNetState). before.failures.faults ≤ net.failures.faults) gives.2 gives.1;
       failed = λ failed. omega arith;
       fresh = tt;
+      limit = refl;
       listeners = record { given = refl; listeners = λ told. refl };
       still_told = λ told. told;
       asked = λ told. refl;
@@ -100,6 +102,7 @@ connects address fails before now (Err call_fault.Memory) gives =
       later = omega arith;
       failed = search rules;
       fresh = tt;
+      limit = refl;
       listeners = record { given = refl; listeners = λ told. refl };
       still_told = λ told. told;
       asked = λ told. refl;
@@ -115,6 +118,7 @@ accepts listener address fails before now (Ok link) at gives =
       later = omega arith;
       failed = search rules;
       fresh = gives.1;
+      limit = refl;
       listeners = record { given = refl; listeners = λ told. refl };
       still_told = λ told. told;
       asked = λ told. refl;
@@ -126,6 +130,7 @@ accepts listener address fails before now (Err call_fault.Failed) at gives =
       later = subst (λ (net : MemNetState). before.failures.faults ≤ net.failures.faults) gives.2 gives.1;
       failed = λ failed. omega arith;
       fresh = tt;
+      limit = refl;
       listeners = record { given = refl; listeners = λ told. refl };
       still_told = λ told. told;
       asked = λ told. refl;
@@ -137,6 +142,7 @@ accepts listener address fails before now (Err call_fault.Memory) at gives =
       later = omega arith;
       failed = search rules;
       fresh = tt;
+      limit = refl;
       listeners = record { given = refl; listeners = λ told. refl };
       still_told = λ told. told;
       asked = λ told. refl;

@@ -1,5 +1,5 @@
 -- A net in memory that fails at listed calls, and where no link is left.
-use Rattle.std.specs.Prelude.{◌≡◌, ◌≤◌, ◌+◌, ◌||◌, ℕ, nat_lt, Bool, true, false, if◌then◌else◌, List, [], ◌∷◌, ◌++◌, length, map, slice_get, Some, None, is_none, Result, Ok, Err}
+use Rattle.std.specs.Prelude.{◌≡◌, ◌≤◌, ◌+◌, ◌||◌, ℕ, nat_lt, Bool, true, false, if◌then◌else◌, List, [], ◌∷◌, ◌++◌, length, map, slice_get, Some, None, Option, is_none, Result, Ok, Err}
 use Rattle.std.specs.Result.{result_map_both}
 use Rattle.vd_base.specs.declared.faults.CallFault.{CallFault}
 use Rattle.vd_base.specs.declared.faults.CallFault.TheVariants as call_fault
@@ -11,9 +11,10 @@ use Rattle.vd_fakes.specs.declared.failures.Failures.{Failures}
 use Rattle.vd_outside.specs.declared.net.NetCall.{NetCall}
 use Rattle.vd_outside.specs.declared.net.NetCall.TheVariants.{Accept, Listen}
 
--- the address of each listener, the links still to be given, how many were given, those that came back, the calls that
+-- the limit of waits, the address of each listener, the links still to be given, how many were given, those that came back, the calls that
 -- were asked, and the calls that fail
 pub record MemNetState : Type 0 where
+  pub limit : Option ℕ
   pub listeners : List (List ℕ)
   pub waiting : Waiting MemLinkState
   pub links : ℕ
@@ -35,6 +36,7 @@ abbrev pub listed_net_view : MemNetState → NetView
 listed_net_view net = record {
   told = true;
   given = length net.listeners;
+  limit = net.limit;
   listeners = net.listeners;
   waiting = map limited_link_at net.waiting;
   otherwise = None;
@@ -93,4 +95,4 @@ told_link result = result_map_both limited_link_view (λ fault. fault) result
 
 -- one that holds no link, and fails at the calls with these numbers
 abbrev pub no_links : List ℕ → MemNetState
-no_links failing = record { listeners = []; waiting = []; links = 0; back = []; asked = []; failures = failures_at failing }
+no_links failing = record { limit = None; listeners = []; waiting = []; links = 0; back = []; asked = []; failures = failures_at failing }

@@ -1,14 +1,15 @@
 -- A net in memory that never fails.
-use Rattle.std.specs.Prelude.{◌≡◌, ◌<◌, ℕ, ◌+◌, true, List, [], ◌∷◌, ◌++◌, length, map, remove, slice_get, Some, None, option_map}
+use Rattle.std.specs.Prelude.{◌≡◌, ◌<◌, ℕ, ◌+◌, true, List, [], ◌∷◌, ◌++◌, length, map, remove, slice_get, Option, Some, None, option_map}
 use Rattle.vd_outside.specs.Link.{LinkView}
 use Rattle.vd_outside.specs.Net.{NetView, Waiting, link_at, without_link_at}
 use Rattle.vd_fakes.specs.SureLink.{SureLinkState, fresh_link, link_view}
 use Rattle.vd_outside.specs.declared.net.NetCall.{NetCall}
 
--- the room of the links without bytes, the address of each listener, the links still to be given, how many were given,
+-- the room of the links without bytes, the limit of waits, the address of each listener, the links still to be given, how many were given,
 -- those that came back, and the calls that were asked
 pub record SureNetState : Type 0 where
   pub room : ℕ
+  pub limit : Option ℕ
   pub listeners : List (List ℕ)
   pub waiting : Waiting SureLinkState
   pub links : ℕ
@@ -28,6 +29,7 @@ abbrev pub net_view : SureNetState → NetView
 net_view net = record {
   told = true;
   given = length net.listeners;
+  limit = net.limit;
   listeners = net.listeners;
   waiting = map link_view_at net.waiting;
   otherwise = Some (link_view (empty_link net.room));

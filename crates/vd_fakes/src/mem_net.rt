@@ -17,6 +17,7 @@ use vd_outside::{Link, Net, NetCall};
 #[derive(Debug, Drop)]
 pub struct MemNet {
     alloc: Global,
+    limit: Option<u32>,
     listeners: Items<Text>,
     waiting: Items<(Text, MemLink)>,
     links: usize,
@@ -32,6 +33,7 @@ impl Model for MemNet {
     ghost Value = { MemNetState };
 
     ghost view = { λ net. record {
+      limit = net.limit;
       listeners = net.listeners;
       waiting = net.waiting;
       links = net.links;
@@ -50,6 +52,7 @@ impl MemNet {
     {
         MemNet {
             alloc,
+            limit: None,
             listeners: Items::new(alloc),
             waiting: Items::new(alloc),
             links: 0,
@@ -125,13 +128,16 @@ impl Net for MemNet {
 
     ghost greets = { λ link greeting. ⊤ };
 
-    ghost has_limit = { λ net seconds. ⊤ };
-
     fn faults(&self) -> u64 {
         self.failures.faults
     }
 
-    fn wait_at_most(&mut self, _seconds: Option<u32>) {}
+    fn wait_at_most(&mut self, seconds: Option<u32>)
+        ensures limited { listed_net_view self.new ≡ record (listed_net_view self.old) { limit = seconds } }
+        ensures state { self.new ≡ record self.old { limit = seconds } }
+    {
+        self.limit = seconds;
+    }
 
     fn listen(&mut self, address: &str) -> Result<u32, CallFault>
         requires { (listed_net_view self.old).given < u32.MAX }

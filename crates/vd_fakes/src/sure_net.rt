@@ -16,6 +16,7 @@ use vd_outside::{Net, NetCall};
 pub struct SureNet {
     alloc: Global,
     room: usize,
+    limit: Option<u32>,
     listeners: Items<Text>,
     waiting: Items<(Text, SureLink)>,
     links: usize,
@@ -31,6 +32,7 @@ impl Model for SureNet {
 
     ghost view = { λ net. record {
       room = net.room;
+      limit = net.limit;
       listeners = net.listeners;
       waiting = net.waiting;
       links = net.links;
@@ -44,18 +46,19 @@ impl Model for SureNet {
 impl SureNet {
     /// A net that holds no link. The links without bytes have room for so many bytes that are sent.
     pub fn new(alloc: Global, room: usize) -> SureNet
-        ensures { result ≡ record { room = room; listeners = []; waiting = []; links = 0; back = []; asked = [] } }
+        ensures { result ≡ record { room = room; limit = None; listeners = []; waiting = []; links = 0; back = []; asked = [] } }
     {
         SureNet::with_links(alloc, room, Items::new(alloc))
     }
 
     /// A net that will give these links, each at its address.
     pub fn with_links(alloc: Global, room: usize, waiting: Items<(Text, SureLink)>) -> SureNet
-        ensures { result ≡ record { room = room; listeners = []; waiting = waiting; links = 0; back = []; asked = [] } }
+        ensures { result ≡ record { room = room; limit = None; listeners = []; waiting = waiting; links = 0; back = []; asked = [] } }
     {
         SureNet {
             alloc,
             room,
+            limit: None,
             listeners: Items::new(alloc),
             waiting,
             links: 0,
@@ -126,13 +129,13 @@ impl Net for SureNet {
 
     ghost greets = { λ link greeting. ⊤ };
 
-    ghost has_limit = { λ net seconds. ⊤ };
-
     fn faults(&self) -> u64 {
         0
     }
 
-    fn wait_at_most(&mut self, _seconds: Option<u32>) {}
+    fn wait_at_most(&mut self, seconds: Option<u32>) {
+        self.limit = seconds;
+    }
 
     fn listen(&mut self, address: &str) -> Result<u32, CallFault> {
         let call = NetCall::Listen(Text::copy_of(self.alloc, address)?);

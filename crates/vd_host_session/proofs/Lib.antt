@@ -5,6 +5,7 @@ mod Causes
 mod ComingBack
 mod Courses
 mod Gathering
+mod Limits
 mod Listeners
 mod Numbers
 mod Others

@@ -58,3 +58,8 @@ abbrev pub LinksComeBack : Type 0
 LinksComeBack = (machine : Kept) (task : Task) (start end : NetView) (out_before out_now : SinkView) (result : Result Ended HostFault)
     → length task.addresses ≤ 3 → task.me.0 ≤ length task.addresses → Plays machine task start end out_before out_now result
     → IsTrue start.told → length start.back ≤ start.links → ComesBack start end
+
+-- Whatever becomes of a host, the limit of its waits stays.
+abbrev pub LimitsStay : Type 0
+LimitsStay = (machine : Kept) (task : Task) (start end : NetView) (out_before out_now : SinkView) (result : Result Ended HostFault)
+    → Plays machine task start end out_before out_now result → end.limit ≡ start.limit

@@ -10,6 +10,6 @@ mod returning;
 mod task;
 
 pub use fault::HostFault;
-pub use laws::{faults_have_causes, hosts_ask_in_order, links_come_back};
+pub use laws::{faults_have_causes, hosts_ask_in_order, limits_stay, links_come_back};
 pub use playing::play;
 pub use task::Task;

@@ -47,7 +47,7 @@ spawns words = spawns_by (form_of words)
 
 -- The files of the host are fetched and read, and it is run over the net: it listens for its later peers, says so, gets the link
 -- to each peer and greets it, takes the steps of its machine on the words that come, and says that it ended. Each link that was
--- given comes back, in the order of the hosts, whatever the status is. With a deal of version 2 its mark is taken before, and the links are sealed.
+-- given comes back, in the order of the hosts, whatever the status is. No wait is longer than the words allow. With a deal of version 2 its mark is taken before, and the links are sealed.
 abbrev pub PlaysForm : Option Command → FilesView → FilesView → MarksView → MarksView → NetsView → NetsView → SinkView → SinkView → Status → Type 0
 PlaysForm (Some (Host words)) files files_now marks marks_now nets nets_now out out_now status = HostRuns words files files_now marks marks_now nets nets_now out out_now status
 PlaysForm other files files_now marks marks_now nets nets_now out out_now status = Unit {0}

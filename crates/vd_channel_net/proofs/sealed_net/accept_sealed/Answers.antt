@@ -9,7 +9,7 @@ pub returns-in_default-clause-gives_up : goal.returns-in_default-clause-gives_up
 returns-in_default-clause-gives_up g c = NoKey (no_key c.args.seal.now c.awaited_at-peer.result.0 _ c.awaited_at-peer.ensures (c.in_default.ensures {u = tt}).none) refl
 
 pub loop-init : goal.loop-init
-loop-init g c = record { given = refl; kept = tries_none _ _ refl; over = seals_none _ _ _ refl; tried = first_of (search, grind arith); strangers = (0, first_of (search, grind arith), NoStranger) }
+loop-init g c = record { given = refl; limit = refl; kept = tries_none _ _ refl; over = seals_none _ _ _ refl; tried = first_of (search, grind arith); strangers = (0, first_of (search, grind arith), NoStranger) }
 
 pub returns-in_err-frame-clause-gives_up : goal.returns-in_err-frame-clause-gives_up
 returns-in_err-frame-clause-gives_up g c =
@@ -32,6 +32,7 @@ loop-preserved g c =
     let count = so.1 in
     record {
       given = c.meet_over.ensures.given ∙ c.accept.ensures.accepts.listeners.given ∙ c.loop.invariant.given;
+      limit = c.meet_over.ensures.limit ∙ c.accept.ensures.accepts.limit ∙ c.loop.invariant.limit;
       kept = tries_more c.args.seal.now c.loop.seal c.meet_over.new.seal c.loop.invariant.kept c.meet_over.ensures.kept;
       tried = omega (arith, now, more);
       over =

@@ -7,6 +7,7 @@ use Rattle.vd_channel_net.proofs.sealed_net.accept_sealed.Given as goal
 abbrev pub invariant-loop : goal.invariant-loop
 invariant-loop g l = record {
   given : (g.N.Net.view l.net).given ≡ (g.N.Net.view l.fn.net).given;
+  limit : (g.N.Net.view l.net).limit ≡ (g.N.Net.view l.fn.net).limit;
   kept : Tries l.fn.seal l.seal;
   tried : l.seal.tried ≡ l.counter;
   over : SealsLinks (sealer_of l.fn.seal) (g.N.Net.view l.fn.net) (g.N.Net.view l.net);

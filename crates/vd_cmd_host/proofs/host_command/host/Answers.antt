@@ -6,4 +6,4 @@ pub returns-in-Err : goal.returns-in-Err
 returns-in-Err g c = Plainly c.in-Err.status (NotLoaded c.in-Err.status (c.in-Err.ensures {u = tt}).loads refl refl) refl refl
 
 pub returns-in-Ok : goal.returns-in-Ok
-returns-in-Ok g c = rw (← c.wait_at_most.ensures.same) (c.run_dealt.ensures _ _ (c.in-Ok.ensures {u = tt}).loads)
+returns-in-Ok g c = c.run_dealt.ensures _ _ (c.in-Ok.ensures {u = tt}).loads

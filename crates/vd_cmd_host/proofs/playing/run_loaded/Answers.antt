@@ -22,18 +22,18 @@ returns-in_err-task g c =
 pub status_of-requires : goal.status_of-requires
 status_of-requires g c =
     let made = c.in_ok-task.ensures {u = tt} in
-    named c.args.words.now c.args.loaded c.in_ok-addresses.addresses c.in_ok-task.field-0 _ _ _ _ (c.in_ok-addresses.ensures {u = tt} ∙ c.as_slice.ensures) made.starts made.ready
+    named c.args.words.now c.args.loaded c.in_ok-addresses.addresses c.in_ok-task.field-0 (g.N.Net.view c.args.net.now) _ _ _ (c.in_ok-addresses.ensures {u = tt} ∙ c.as_slice.ensures) made.starts made.ready _ c.wait_at_most.ensures
     c.in_ok-names.names c.in-Err.fault c.requires.loaded (c.in_ok-names.ensures {u = tt}) (c.in-Err.ensures {u = tt})
 
 pub returns-in-Ok : goal.returns-in-Ok
 returns-in-Ok g c =
     let made = c.in_ok-task.ensures {u = tt} in
-    ran_well c.args.words.now c.args.loaded c.in_ok-addresses.addresses c.in_ok-task.field-0 _ _ _ _ (c.in_ok-addresses.ensures {u = tt} ∙ c.as_slice.ensures) made.starts made.ready
+    ran_well c.args.words.now c.args.loaded c.in_ok-addresses.addresses c.in_ok-task.field-0 (g.N.Net.view c.args.net.now) _ _ _ (c.in_ok-addresses.ensures {u = tt} ∙ c.as_slice.ensures) made.starts made.ready _ c.wait_at_most.ensures
     c.in-Ok.field-0 (c.in-Ok.ensures {u = tt})
 
 pub returns : goal.returns
 returns g c =
     let made = c.in_ok-task.ensures {u = tt} in
     rw c.status_of.ensures
-    (ran_wrong c.args.words.now c.args.loaded c.in_ok-addresses.addresses c.in_ok-task.field-0 _ _ _ _ (c.in_ok-addresses.ensures {u = tt} ∙ c.as_slice.ensures) made.starts made.ready
+    (ran_wrong c.args.words.now c.args.loaded c.in_ok-addresses.addresses c.in_ok-task.field-0 (g.N.Net.view c.args.net.now) _ _ _ (c.in_ok-addresses.ensures {u = tt} ∙ c.as_slice.ensures) made.starts made.ready _ c.wait_at_most.ensures
     c.in_ok-names.names c.in-Err.fault (c.in_ok-names.ensures {u = tt}) (c.in-Err.ensures {u = tt}))

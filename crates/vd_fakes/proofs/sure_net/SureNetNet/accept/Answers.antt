@@ -9,6 +9,7 @@ returns-clause-accepts c =
       later = search rules;
       failed = search rules;
       fresh = refl;
+      limit = search rules;
       listeners = search rules;
       still_told = search rules;
       asked = search rules;

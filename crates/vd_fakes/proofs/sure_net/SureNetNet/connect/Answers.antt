@@ -7,6 +7,7 @@ returns c = record {
   later = search rules;
   failed = search rules;
   fresh = refl;
+  limit = search rules;
   listeners = search rules;
   still_told = search rules;
   asked = search rules;
