@@ -1,5 +1,5 @@
 /// What a name stands for while a source is brought into let-normal form, with its slot.
-#[derive(Clone, Copy, PartialEq, Eq, Debug)]
+#[derive(Clone, Copy, PartialEq, Eq)]
 pub enum Spot {
     Binding(u16),
     Variable(u16),

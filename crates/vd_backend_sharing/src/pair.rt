@@ -14,7 +14,7 @@ use vd_duet::{Clear, Duet, Parts, register_at};
 use vd_execution::{Act, Action, Binary, Reg};
 
 /// Two hosts that share words.
-#[derive(Clone, Copy, PartialEq, Eq, Debug)]
+#[derive(Clone, Copy, PartialEq, Eq)]
 pub struct Pair {
     pub sharing: Sharing,
     pub first: HostId,

@@ -5,7 +5,7 @@ ghost use Rattle.vd_backend_sharing.specs.Sharings.{sharing_of, join as join_of,
 use vd_execution::{Binary, Reg};
 
 /// How the parts of two hosts make a word.
-#[derive(Clone, Copy, PartialEq, Eq, Debug)]
+#[derive(Clone, Copy, PartialEq, Eq)]
 pub enum Sharing {
     /// The word is the sum of its parts.
     Sums,
@@ -46,7 +46,7 @@ impl Sharing {
 }
 
 /// The registers of the two parts of a word.
-#[derive(Clone, Copy, PartialEq, Eq, Debug)]
+#[derive(Clone, Copy, PartialEq, Eq)]
 pub struct Shares {
     pub first: Reg,
     pub second: Reg,

@@ -1,7 +1,7 @@
 use crate::HostId;
 
 /// How a running host stands.
-#[derive(Clone, Copy, PartialEq, Eq, Debug)]
+#[derive(Clone, Copy, PartialEq, Eq)]
 pub enum HostState {
     /// Nothing is pending.
     Ended,

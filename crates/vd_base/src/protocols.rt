@@ -8,13 +8,13 @@ use std::alloc::{AllocError, Global};
 use vd_base_lists::Items;
 
 /// A set of hosts, by the number whose bit h stands for host h.
-#[derive(Clone, Copy, PartialEq, Eq, Debug)]
+#[derive(Clone, Copy, PartialEq, Eq)]
 pub struct HostSet {
     pub bits: u8,
 }
 
 /// Where, and under which cryptography, a value is held.
-#[derive(Clone, Copy, PartialEq, Eq, Debug)]
+#[derive(Clone, Copy, PartialEq, Eq)]
 pub enum Proto {
     /// In clear at one host.
     Local(HostId),

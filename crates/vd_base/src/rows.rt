@@ -1,7 +1,7 @@
 use crate::{HostId, Op};
 
 /// What a binding or a variable asks of the protocol that it stands at: a row of the table of operations.
-#[derive(Clone, Copy, PartialEq, Eq, Debug)]
+#[derive(Clone, Copy, PartialEq, Eq)]
 pub enum Row {
     /// A number, or the number of a loop's turn.
     Constant,

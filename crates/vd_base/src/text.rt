@@ -37,7 +37,7 @@ impl Text {
 }
 
 /// A list of texts that owns copies of them.
-#[derive(Debug, Drop)]
+#[derive(Drop)]
 pub struct Texts {
     alloc: Global,
     texts: Items<Text>,

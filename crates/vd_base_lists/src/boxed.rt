@@ -5,7 +5,7 @@ use std::marker::Model;
 use std::ops::Deref;
 
 /// A `Box` that contracts see as its value.
-#[derive(Debug, Drop)]
+#[derive(Drop)]
 pub struct Boxed<T> {
     inner: Box<T>,
 }

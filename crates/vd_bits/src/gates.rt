@@ -1,6 +1,6 @@
 /// A gate of a circuit. It makes one more word of words that are there, by their places: the operands come first, and then
 /// what the gates before it made.
-#[derive(Clone, Copy, PartialEq, Eq, Debug)]
+#[derive(Clone, Copy, PartialEq, Eq)]
 pub enum Gate {
     /// The words at two places, bit by bit.
     And(usize, usize),

@@ -19,11 +19,11 @@ use vd_duet::{Args, Backend, Clear, Duet, Parts};
 use vd_execution::{Binary, Reg};
 
 /// A host's part of an exclusive or.
-#[derive(Clone, Copy, PartialEq, Eq, Debug)]
+#[derive(Clone, Copy, PartialEq, Eq)]
 pub struct XorShare(pub Reg);
 
 /// Two hosts that share words: a word is the exclusive or of their parts.
-#[derive(Clone, Copy, PartialEq, Eq, Debug)]
+#[derive(Clone, Copy, PartialEq, Eq)]
 pub struct XorPair(pub HostId, pub HostId);
 
 impl XorPair {

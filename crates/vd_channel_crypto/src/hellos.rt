@@ -9,7 +9,7 @@ use crate::records::Keys;
 use vd_base::HostId;
 
 /// What each end of a sealed link says first.
-#[derive(Clone, Copy, PartialEq, Eq, Debug)]
+#[derive(Clone, Copy, PartialEq, Eq)]
 pub struct Hello {
     /// The public name of the dealing.
     pub id: [u8; 32],

@@ -9,7 +9,7 @@ use vd_duet::{Args, Backend, Clear, Duet, Parts};
 use vd_execution::Reg;
 
 /// Two hosts that share words by exclusive or, and compute by circuits.
-#[derive(Clone, Copy, PartialEq, Eq, Debug)]
+#[derive(Clone, Copy, PartialEq, Eq)]
 pub struct CircuitPair(pub HostId, pub HostId);
 
 impl CircuitPair {

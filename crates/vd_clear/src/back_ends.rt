@@ -17,11 +17,11 @@ use vd_duet::{Args, Backend, Clear, Duet, Parts, register_at};
 use vd_execution::{Act, Action, Reg};
 
 /// One host that holds words in clear.
-#[derive(Clone, Copy, PartialEq, Eq, Debug)]
+#[derive(Clone, Copy, PartialEq, Eq)]
 pub struct LocalHost(pub HostId);
 
 /// Hosts that each hold a copy of words in clear.
-#[derive(Clone, Copy, PartialEq, Eq, Debug)]
+#[derive(Clone, Copy, PartialEq, Eq)]
 pub struct Replica(pub HostSet);
 
 /// Writes `x` over the copies of `kept`.

@@ -10,7 +10,7 @@ use vd_base::{Text, Texts};
 use vd_deal_items::Counts;
 
 /// The words of `replay SOURCE INPUTS PREFIX SCHEDULE [messages] [BUDGET]`.
-#[derive(Debug, Drop)]
+#[derive(Drop)]
 pub struct ReplayWords {
     pub source: Text,
     pub inputs: Text,
@@ -23,7 +23,7 @@ pub struct ReplayWords {
 }
 
 /// The words of `needs FILE [each] [BUDGET]`.
-#[derive(Debug, Drop)]
+#[derive(Drop)]
 pub struct NeedsWords {
     /// A source, or the program of a host.
     pub file: Text,
@@ -34,7 +34,7 @@ pub struct NeedsWords {
 }
 
 /// The words of `compile SOURCE PREFIX early [BUDGET]`.
-#[derive(Debug, Drop)]
+#[derive(Drop)]
 pub struct EarlyWords {
     pub source: Text,
     pub prefix: Text,
@@ -44,7 +44,7 @@ pub struct EarlyWords {
 
 /// The words of `host PROGRAM INPUTS DEAL ADDR*`: three files, and the addresses of the host's pairs in the order of its
 /// peers. Those of `host-within SECONDS PROGRAM INPUTS DEAL ADDR*` have a limit besides.
-#[derive(Debug, Drop)]
+#[derive(Drop)]
 pub struct HostWords {
     pub program: Text,
     pub inputs: Text,
@@ -55,7 +55,7 @@ pub struct HostWords {
 }
 
 /// The words of `run SOURCE INPUTS PREFIX SELF PORT`.
-#[derive(Debug, Drop)]
+#[derive(Drop)]
 pub struct RunWords {
     pub source: Text,
     pub inputs: Text,
@@ -67,7 +67,7 @@ pub struct RunWords {
 }
 
 /// Where a key of 32 bytes comes from.
-#[derive(Debug, Drop)]
+#[derive(Drop)]
 pub enum KeySource {
     /// `draw`: it is drawn, and kept nowhere.
     Drawn,
@@ -76,7 +76,7 @@ pub enum KeySource {
 }
 
 /// The words of `deal HOSTS OWN MULS ANDS PAIRS draw PREFIX` and `deal HOSTS OWN MULS ANDS PAIRS @FILE PREFIX`.
-#[derive(Debug, Drop)]
+#[derive(Drop)]
 pub struct KeyDealWords {
     pub counts: Counts,
     pub key: KeySource,
@@ -84,7 +84,7 @@ pub struct KeyDealWords {
 }
 
 /// The words of `excuse SOURCE INPUTS INPUTS2 PREFIX HOST OUT [BUDGET]`.
-#[derive(Debug, Drop)]
+#[derive(Drop)]
 pub struct ExcuseWords {
     pub source: Text,
     /// The inputs of the run that was seen.
@@ -100,7 +100,7 @@ pub struct ExcuseWords {
 }
 
 /// A command that uses files and the output alone: it reads files, and its answer is what it stores and prints.
-#[derive(Debug, Drop)]
+#[derive(Drop)]
 pub enum FilesCommand {
     /// `clear SOURCE INPUTS`.
     Clear(Text, Text),
@@ -135,7 +135,7 @@ pub enum FilesCommand {
 }
 
 /// A command line that has a form.
-#[derive(Debug, Drop)]
+#[derive(Drop)]
 pub enum Command {
     OnFiles(FilesCommand),
     /// `deal HOSTS OWN MULS ANDS PAIRS draw PREFIX`, or with `@FILE` in place of `draw`.

@@ -15,7 +15,7 @@ use vd_deal_items::Deals;
 use vd_outside::Files;
 
 /// The inputs of a run, other inputs, and the deals of the run.
-#[derive(Debug, Drop)]
+#[derive(Drop)]
 pub(crate) struct Runs {
     pub first: Inputs,
     pub second: Inputs,

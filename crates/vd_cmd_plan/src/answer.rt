@@ -6,7 +6,7 @@ use vd_base_lists::Items;
 use vd_outside::Stored;
 
 /// What a command comes to: its status, the files that it stores first, and what it prints.
-#[derive(Debug, Drop)]
+#[derive(Drop)]
 pub struct Answer {
     pub status: Status,
     pub stores: Items<Stored>,

@@ -42,7 +42,7 @@ impl Part {
 }
 
 /// What a part has to act for.
-#[derive(Clone, Copy, PartialEq, Eq, Debug)]
+#[derive(Clone, Copy, PartialEq, Eq)]
 pub enum Bound {
     Constant(Formula),
     Same(Part),
@@ -53,7 +53,7 @@ pub enum Bound {
 }
 
 /// The part acts for the bound.
-#[derive(Clone, Copy, PartialEq, Eq, Debug)]
+#[derive(Clone, Copy, PartialEq, Eq)]
 pub struct Lower {
     pub part: Part,
     pub bound: Bound,
@@ -90,7 +90,7 @@ impl Check {
 }
 
 /// The rules and checks of a program. The number of a rule or a check is its place in its list.
-#[derive(PartialEq, Eq, Debug, Drop)]
+#[derive(Drop)]
 pub struct System {
     principals: Names,
     slots: u32,

@@ -4,14 +4,14 @@ use vd_base::{Kind, Name, Span};
 use vd_base_lists::{Boxed, Items};
 
 /// A name as it stands in the text.
-#[derive(PartialEq, Eq, Debug, Drop)]
+#[derive(Drop)]
 pub struct Ident {
     pub name: Name,
     pub span: Span,
 }
 
 /// A formula over principals as it is written. Brackets leave no trace, and a list of one part is that part.
-#[derive(PartialEq, Eq, Debug, Drop)]
+#[derive(Drop)]
 pub enum WrittenForm {
     /// `any`.
     Any,
@@ -25,28 +25,28 @@ pub enum WrittenForm {
 }
 
 /// A label as it is written: confidentiality, then integrity.
-#[derive(PartialEq, Eq, Debug, Drop)]
+#[derive(Drop)]
 pub struct WrittenLabel {
     pub conf: WrittenForm,
     pub integ: WrittenForm,
 }
 
 /// A host with its authority.
-#[derive(PartialEq, Eq, Debug, Drop)]
+#[derive(Drop)]
 pub struct Host {
     pub name: Ident,
     pub label: WrittenLabel,
 }
 
 /// A parameter of a function.
-#[derive(PartialEq, Eq, Debug, Drop)]
+#[derive(Drop)]
 pub struct Parameter {
     pub name: Ident,
     pub kind: Kind,
 }
 
 /// An operator before its operand.
-#[derive(Clone, Copy, PartialEq, Eq, Debug)]
+#[derive(Clone, Copy, PartialEq, Eq)]
 pub enum Prefix {
     /// `!`, which changes the lowest bit.
     Flip,
@@ -55,14 +55,14 @@ pub enum Prefix {
 }
 
 /// An operator that stands before an operand, and its span.
-#[derive(Clone, Copy, PartialEq, Eq, Debug)]
+#[derive(Clone, Copy, PartialEq, Eq)]
 pub struct Sign {
     pub prefix: Prefix,
     pub span: Span,
 }
 
 /// An operator between two operands.
-#[derive(Clone, Copy, PartialEq, Eq, Debug)]
+#[derive(Clone, Copy, PartialEq, Eq)]
 pub enum Infix {
     Equal,
     NotEqual,
@@ -81,7 +81,7 @@ pub enum Infix {
 }
 
 /// Which way the bits of a word move.
-#[derive(Clone, Copy, PartialEq, Eq, Debug)]
+#[derive(Clone, Copy, PartialEq, Eq)]
 pub enum Direction {
     Left,
     Right,
@@ -89,7 +89,7 @@ pub enum Direction {
 
 /// An expression.
 #[cycle(expr)]
-#[derive(PartialEq, Eq, Debug, Drop)]
+#[derive(Drop)]
 pub enum Expr {
     Number(u32),
     Truth(bool),
@@ -118,7 +118,7 @@ pub enum Expr {
 
 /// One step of a chain. The span is that of the operator.
 #[cycle(expr)]
-#[derive(PartialEq, Eq, Debug, Drop)]
+#[derive(Drop)]
 pub enum Segment {
     /// An operator with its right operand.
     Infix(Infix, Span, Expr),
@@ -127,7 +127,7 @@ pub enum Segment {
 }
 
 /// A statement. `at` is the span of its first token; where there is none, that token is the name.
-#[derive(PartialEq, Eq, Debug, Drop)]
+#[derive(Drop)]
 pub enum Statement {
     Let {
         at: Span,
@@ -181,7 +181,7 @@ pub enum Statement {
 }
 
 /// A function.
-#[derive(PartialEq, Eq, Debug, Drop)]
+#[derive(Drop)]
 pub struct Function {
     pub name: Ident,
     pub parameters: Items<Parameter>,
@@ -192,7 +192,7 @@ pub struct Function {
 }
 
 /// A source.
-#[derive(PartialEq, Eq, Debug, Drop)]
+#[derive(Drop)]
 pub struct Source {
     pub principals: Items<Ident>,
     pub hosts: Items<Host>,

@@ -18,7 +18,7 @@ use vd_search_tree::Prefixes;
 use vd_space::Problem;
 
 /// What the test of the candidate that was chosen last came to.
-#[derive(PartialEq, Eq, Debug, Drop)]
+#[derive(Drop)]
 pub(crate) enum Tested {
     /// The choice stands.
     Open,

@@ -23,7 +23,7 @@ const IDLE: u32 = 24;
 const SHOWING: u64 = 3;
 
 /// A candidate of a slot: a setting of its point.
-#[derive(Clone, Copy, PartialEq, Eq, Debug)]
+#[derive(Clone, Copy, PartialEq, Eq)]
 pub(crate) struct Candidate {
     point: usize,
     /// Among the settings that are left.
@@ -33,7 +33,7 @@ pub(crate) struct Candidate {
 }
 
 /// What a test says of a candidate.
-#[derive(Clone, Copy, PartialEq, Eq, Debug)]
+#[derive(Clone, Copy, PartialEq, Eq)]
 pub(crate) enum Verdict {
     /// A list that begins with it costs too much, by what was shifted.
     Refuted,

@@ -6,7 +6,7 @@ use vd_cost_network_prefix::SwitchTable;
 use vd_cost_network_tables::RawArc;
 
 /// What the bound by arcs of every prefix is made of, whatever the shifts are. All amounts are in parts of a unit.
-#[derive(PartialEq, Eq, Debug, Drop)]
+#[derive(Drop)]
 pub struct NetworkBound {
     /// The protocols of the problem.
     pub list: Items<Proto>,

@@ -8,7 +8,7 @@ use vd_cost_network_sweeps::{Network, Tables};
 const ROUNDS: u32 = 8;
 
 /// A setting of a point, among those of the tables.
-#[derive(Clone, Copy, PartialEq, Eq, Debug)]
+#[derive(Clone, Copy, PartialEq, Eq)]
 pub(crate) struct Costlier {
     pub(crate) point: usize,
     pub(crate) number: usize,

@@ -6,7 +6,7 @@ use vd_cost_network_prefix::ArcTable;
 use vd_cost_network_sweeps::{End, FAR, Nets, Network, Tables, number_at, settings_at};
 
 /// A setting that is not left, among all that its point has.
-#[derive(Clone, Copy, PartialEq, Eq, Debug)]
+#[derive(Clone, Copy, PartialEq, Eq)]
 struct Gone {
     point: usize,
     setting: usize,

@@ -13,7 +13,7 @@ use vd_base_lists::Items;
 use vd_space::Problem;
 
 /// What the first choices decide of each point, and what all points and arcs come to by that.
-#[derive(PartialEq, Eq, Debug, Drop)]
+#[derive(Drop)]
 pub(crate) struct Known {
     /// By point.
     pub states: Items<Option<u32>>,

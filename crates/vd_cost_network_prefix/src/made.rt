@@ -5,7 +5,7 @@ use vd_base_lists::Items;
 use vd_search_tree::Shift;
 
 /// What a point alone costs: by its setting, and at least where it is not decided.
-#[derive(PartialEq, Eq, Debug, Drop)]
+#[derive(Drop)]
 pub struct PointTable {
     pub costs: Items<i64>,
     pub free: i64,
@@ -13,7 +13,7 @@ pub struct PointTable {
 
 /// What an arc costs, by the settings of its two points, where these join; and at least by the setting of the first where
 /// the second is not decided, by that of the second where the first is not, and where neither is.
-#[derive(PartialEq, Eq, Debug, Drop)]
+#[derive(Drop)]
 pub struct ArcTable {
     pub first: u32,
     pub second: u32,
@@ -24,7 +24,7 @@ pub struct ArcTable {
 }
 
 /// A switch: the number of its guard, its host, and the slots that may bring the host in.
-#[derive(PartialEq, Eq, Debug, Drop)]
+#[derive(Drop)]
 pub struct SwitchTable {
     pub guard: u32,
     pub host: HostId,
@@ -32,7 +32,7 @@ pub struct SwitchTable {
 }
 
 /// The tables of a problem and of shifts that name arcs.
-#[derive(PartialEq, Eq, Debug, Drop)]
+#[derive(Drop)]
 pub struct NetworkTables {
     pub shifts: Items<Shift>,
     /// By point: the slots, then the switches.

@@ -13,7 +13,7 @@ use vd_base_lists::Items;
 use vd_space::Problem;
 
 /// What depends on slots and points.
-#[derive(PartialEq, Eq, Debug, Drop)]
+#[derive(Drop)]
 pub(crate) struct Reach {
     /// By slot: the points that it may change.
     pub points: Items<Items<usize>>,

@@ -5,7 +5,7 @@ use crate::sweeps::State;
 use crate::tables::Tables;
 
 /// How far a climb goes, and what it does on the way.
-#[derive(Clone, Copy, PartialEq, Eq, Debug)]
+#[derive(Clone, Copy, PartialEq, Eq)]
 pub struct Reach {
     /// So many sweeps are made at most.
     pub sweeps: u32,
@@ -43,7 +43,7 @@ pub trait Keep {
 }
 
 /// Nothing but what the state has behind the last sweep.
-#[derive(Clone, Copy, PartialEq, Eq, Debug)]
+#[derive(Clone, Copy, PartialEq, Eq)]
 pub struct Last;
 
 impl Keep for Last {

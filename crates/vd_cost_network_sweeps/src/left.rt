@@ -13,7 +13,7 @@ use vd_space::Problem;
 pub const NOTHING_LEFT: i64 = 256_000_000_000;
 
 /// A setting that is not left.
-#[derive(Clone, Copy, PartialEq, Eq, Debug)]
+#[derive(Clone, Copy, PartialEq, Eq)]
 pub struct Death {
     pub point: usize,
     pub setting: usize,

@@ -13,7 +13,7 @@ use std::alloc::{AllocError, Global};
 use vd_cost_network_prefix::ArcTable;
 
 /// How much is lifted.
-#[derive(Clone, Copy, PartialEq, Eq, Debug)]
+#[derive(Clone, Copy, PartialEq, Eq)]
 pub struct Lift {
     /// So many parts more are put on each.
     pub amount: i64,

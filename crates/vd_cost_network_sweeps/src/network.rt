@@ -5,14 +5,14 @@ use crate::order::Order;
 use std::alloc::{AllocError, Global};
 use vd_cost_network_prefix::ArcTable;
 
-#[derive(Clone, Copy, PartialEq, Eq, Debug)]
+#[derive(Clone, Copy, PartialEq, Eq)]
 pub enum Side {
     First,
     Second,
 }
 
 /// One end of an arc.
-#[derive(Clone, Copy, PartialEq, Eq, Debug)]
+#[derive(Clone, Copy, PartialEq, Eq)]
 pub struct End {
     /// The number of the arc.
     pub at: usize,

@@ -1,7 +1,7 @@
 //! How far a climb has come: sweeps by turns, as long as the bound rises.
 
 /// Why a climb ended.
-#[derive(Clone, Copy, PartialEq, Eq, Debug)]
+#[derive(Clone, Copy, PartialEq, Eq)]
 pub enum Ending {
     /// A list costs no more than the bound.
     Shown,
@@ -12,7 +12,7 @@ pub enum Ending {
 }
 
 /// The bounds of the sweeps so far.
-#[derive(Clone, Copy, PartialEq, Eq, Debug)]
+#[derive(Clone, Copy, PartialEq, Eq)]
 pub struct Progress {
     /// The greatest.
     bound: i64,

@@ -5,7 +5,7 @@ use crate::numbers::{SMALL_FAR, number_at, put, small_at, small_zeros, zeros};
 use std::alloc::{AllocError, Global};
 
 /// How what a point gives is split over the arcs that are ahead: in equal parts for all of them, and for as many behind.
-#[derive(Clone, Copy, PartialEq, Eq, Debug)]
+#[derive(Clone, Copy, PartialEq, Eq)]
 pub(crate) struct Split {
     ahead: u32,
     parts: u32,

@@ -3,7 +3,7 @@
 use vd_base_lists::Items;
 
 /// What an arc costs without shifts, by the settings of its two points, where these join. In parts of a unit.
-#[derive(PartialEq, Eq, Debug, Drop)]
+#[derive(Drop)]
 pub struct RawArc {
     pub first: u32,
     pub second: u32,

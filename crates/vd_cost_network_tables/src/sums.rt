@@ -15,7 +15,7 @@ use vd_search_tree::Shift;
 
 /// The rows of a table of sums: for each arc what is shifted at its first end, the same at its second, or for each point
 /// what is shifted at the arcs that it is an end of.
-#[derive(Clone, Copy, PartialEq, Eq, Debug)]
+#[derive(Clone, Copy, PartialEq, Eq)]
 pub enum Rows {
     Firsts,
     Seconds,

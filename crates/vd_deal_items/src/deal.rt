@@ -7,7 +7,7 @@ use vd_base::{HostId, Words};
 use vd_base_lists::Items;
 
 /// What one host is dealt. The lists that it shares with a peer stand in the order of the peers, its own number left out.
-#[derive(PartialEq, Eq, Debug, Drop)]
+#[derive(Drop)]
 pub struct Deal {
     /// How many hosts there are.
     pub hosts: u8,
@@ -52,7 +52,7 @@ impl fmt::Display for DealKind {
 }
 
 /// How much is dealt: to how many hosts, how many words to each, and how many items of each kind to each two.
-#[derive(Clone, Copy, PartialEq, Eq, Debug)]
+#[derive(Clone, Copy, PartialEq, Eq)]
 pub struct Counts {
     pub hosts: u8,
     pub own: u32,

@@ -4,7 +4,7 @@ ghost use Rattle.std.specs.Prelude.{◌≡◌};
 ghost use Rattle.vd_deal_items.specs.Identities as identities;
 
 /// One host's part of a dealt product: of words, or of their bits.
-#[derive(Clone, Copy, PartialEq, Eq, Debug)]
+#[derive(Clone, Copy, PartialEq, Eq)]
 pub struct Triple {
     pub a: u32,
     pub b: u32,
@@ -12,7 +12,7 @@ pub struct Triple {
 }
 
 /// One host's part of a dealt word that is a sum and an exclusive or.
-#[derive(Clone, Copy, PartialEq, Eq, Debug)]
+#[derive(Clone, Copy, PartialEq, Eq)]
 pub struct PairItem {
     /// The part of the sum.
     pub s: u32,

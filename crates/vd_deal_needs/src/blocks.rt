@@ -1,7 +1,7 @@
 //! Blocks of a code that is read from its end.
 
 /// A block whose end was read, with what is taken from a list behind what is read of it.
-#[derive(Clone, Copy, PartialEq, Eq, Debug)]
+#[derive(Clone, Copy, PartialEq, Eq)]
 pub(crate) enum TakenBehind {
     /// Behind the block.
     End(u64),

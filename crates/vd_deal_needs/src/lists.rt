@@ -10,7 +10,7 @@ use vd_base::HostId;
 use vd_execution::Action;
 
 /// A list that a host takes items from, one after the other.
-#[derive(Clone, Copy, PartialEq, Eq, Debug)]
+#[derive(Clone, Copy, PartialEq, Eq)]
 pub(crate) enum ItemList {
     /// The host's inputs.
     Inputs,

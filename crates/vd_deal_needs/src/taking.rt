@@ -15,7 +15,7 @@ use vd_base_lists::Items;
 use vd_execution::Instr;
 
 /// How many items of each kind a host takes of those that it shares with a peer.
-#[derive(Clone, Copy, PartialEq, Eq, Debug)]
+#[derive(Clone, Copy, PartialEq, Eq)]
 pub struct Shared {
     /// Products of words.
     pub muls: u32,
@@ -26,7 +26,7 @@ pub struct Shared {
 }
 
 /// How many inputs and dealt items a host's code takes at most.
-#[derive(PartialEq, Eq, Debug, Drop)]
+#[derive(Drop)]
 pub struct HostNeeds {
     /// Inputs.
     pub inputs: u32,

@@ -6,7 +6,7 @@ ghost use Rattle.vd_diag_branches.specs.Barriers.{barrier_of, first_in, right_ba
 use vd_core::{Right, Stmt};
 
 /// What is done in a branch that would tell that it is taken, or that has no selection.
-#[derive(Clone, Copy, PartialEq, Eq, Debug)]
+#[derive(Clone, Copy, PartialEq, Eq)]
 pub(crate) enum Barrier {
     Loop,
     Array,

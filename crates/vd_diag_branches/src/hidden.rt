@@ -10,7 +10,7 @@ use vd_core::Stmt;
 use vd_rewrite::is_marked;
 
 /// A branch that cannot be hidden: the offset of its If, and the first thing that stands in the way.
-#[derive(Clone, Copy, PartialEq, Eq, Debug)]
+#[derive(Clone, Copy, PartialEq, Eq)]
 pub(crate) struct Branch {
     pub offset: u32,
     pub barrier: Barrier,

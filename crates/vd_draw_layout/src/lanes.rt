@@ -14,7 +14,7 @@ use vd_draw_rows::{Move, Row};
 use vd_protocol::protocols;
 
 /// A lane: whose words are drawn there, and where it is.
-#[derive(Clone, Copy, PartialEq, Eq, Debug)]
+#[derive(Clone, Copy, PartialEq, Eq)]
 pub struct Lane {
     pub at: Proto,
     pub x: u64,

@@ -16,7 +16,7 @@ use vd_core::NormalForm;
 use vd_draw_rows::Row;
 
 /// The columns of a drawing.
-#[derive(Debug, Drop)]
+#[derive(Drop)]
 pub struct Layout {
     /// How many letters the column of texts has.
     pub text_letters: u64,

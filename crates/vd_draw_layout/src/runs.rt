@@ -11,7 +11,7 @@ use vd_base_lists::Items;
 use vd_draw_rows::{Kind, Row, is_seen};
 
 /// A row of the drawing: the last of the rows that are drawn as one.
-#[derive(Debug, Drop)]
+#[derive(Drop)]
 pub struct Drawn {
     /// How many rows of the drawing stand above it.
     pub number: u64,

@@ -17,7 +17,7 @@ use vd_draw_rows::{Line, Row};
 use vd_draw_svg::{Mark, Place, Style};
 
 /// Rows that are drawn as one: how many, what they cost, and their titles.
-#[derive(Debug, Drop)]
+#[derive(Drop)]
 pub(crate) struct Run {
     pub count: u64,
     pub cost: u64,

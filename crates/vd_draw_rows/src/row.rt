@@ -4,7 +4,7 @@ use vd_base::{Bytes, Proto, SlotId};
 use vd_base_lists::Items;
 
 /// How a word goes from one protocol to another: what leaves a host.
-#[derive(Clone, Copy, PartialEq, Eq, Debug)]
+#[derive(Clone, Copy, PartialEq, Eq)]
 pub enum Arrow {
     /// The word itself.
     Clear,
@@ -25,7 +25,7 @@ pub enum Arrow {
 }
 
 /// A word that is moved.
-#[derive(Clone, Copy, PartialEq, Eq, Debug)]
+#[derive(Clone, Copy, PartialEq, Eq)]
 pub struct Move {
     /// The slot whose word, or whose element, it is.
     pub slot: SlotId,
@@ -55,7 +55,7 @@ pub enum Kind {
 }
 
 /// A line of the source, from the statement on that a row tells.
-#[derive(Debug, Drop)]
+#[derive(Drop)]
 pub struct Line {
     /// Its number, from 1.
     pub number: usize,
@@ -64,7 +64,7 @@ pub struct Line {
 }
 
 /// A row: a statement, or the beginning of a block.
-#[derive(Debug, Drop)]
+#[derive(Drop)]
 pub struct Row {
     pub kind: Kind,
     /// In how many blocks it stands: 1 for that of the whole program.

@@ -4,7 +4,7 @@ ghost use Rattle.std.specs.Prelude.{◌≡◌};
 ghost use Rattle.vd_draw_svg.specs.Classes as classes;
 
 /// How a text looks.
-#[derive(Clone, Copy, PartialEq, Eq, Debug)]
+#[derive(Clone, Copy, PartialEq, Eq)]
 pub enum Style {
     /// As most texts.
     Plain,
@@ -26,7 +26,7 @@ pub enum Style {
 }
 
 /// How a line looks.
-#[derive(Clone, Copy, PartialEq, Eq, Debug)]
+#[derive(Clone, Copy, PartialEq, Eq)]
 pub enum Stroke {
     /// The lane of a host.
     Host,
@@ -49,7 +49,7 @@ pub enum Stroke {
 }
 
 /// How a rectangle looks.
-#[derive(Clone, Copy, PartialEq, Eq, Debug)]
+#[derive(Clone, Copy, PartialEq, Eq)]
 pub enum Area {
     /// The whole drawing.
     Page,
@@ -64,7 +64,7 @@ pub enum Area {
 }
 
 /// A shape that stands for a word at a place.
-#[derive(Clone, Copy, PartialEq, Eq, Debug)]
+#[derive(Clone, Copy, PartialEq, Eq)]
 pub enum Shape {
     /// At one host.
     Host,

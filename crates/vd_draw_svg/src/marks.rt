@@ -11,7 +11,7 @@ pub struct Place {
 }
 
 /// A mark of a drawing.
-#[derive(Debug, Drop)]
+#[derive(Drop)]
 pub enum Mark {
     /// The marks behind it, up to its end, stand so far below, and have this title.
     Group(u64, Bytes),

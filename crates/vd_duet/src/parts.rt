@@ -6,7 +6,7 @@ use vd_base_lists::Items;
 use vd_execution::Reg;
 
 /// A word in clear at one host.
-#[derive(Clone, Copy, PartialEq, Eq, Debug)]
+#[derive(Clone, Copy, PartialEq, Eq)]
 pub struct Clear(pub Reg);
 
 /// The parts of a word, each with its host, in the order of the hosts.

@@ -4,7 +4,7 @@ use vd_base::{Bytes, Text};
 use vd_base_lists::Items;
 
 /// What a file held.
-#[derive(Debug, Drop)]
+#[derive(Drop)]
 pub enum Held {
     /// These bytes and no more.
     Whole(Bytes),
@@ -13,14 +13,14 @@ pub enum Held {
 }
 
 /// A file as it was read.
-#[derive(Debug, Drop)]
+#[derive(Drop)]
 pub struct Kept {
     pub name: Text,
     pub held: Held,
 }
 
 /// A file that is to be read.
-#[derive(Debug, Drop)]
+#[derive(Drop)]
 pub struct Wanted {
     pub name: Text,
     /// The most bytes with which it will be fetched.
@@ -28,7 +28,7 @@ pub struct Wanted {
 }
 
 /// A file that could not be read.
-#[derive(Debug, Drop)]
+#[derive(Drop)]
 pub(crate) struct Unread {
     pub name: Text,
     /// Why, where that is known.
@@ -36,7 +36,7 @@ pub(crate) struct Unread {
 }
 
 /// What came of files that were to be read.
-#[derive(Debug, Drop)]
+#[derive(Drop)]
 pub(crate) struct Reading {
     pub kept: Items<Kept>,
     pub unread: Items<Unread>,

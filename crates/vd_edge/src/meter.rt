@@ -20,7 +20,7 @@ pub(crate) enum Part {
 }
 
 /// How many packets have passed: behind a greeting each has its tag, the number of its words, and four bytes a word.
-#[derive(Clone, Copy, Debug)]
+#[derive(Clone, Copy)]
 pub(crate) struct Meter {
     packets: u64,
     part: Part,

@@ -6,7 +6,7 @@ use std::io::{Error, ErrorKind};
 use vd_base::Text;
 
 /// What is done for a peer.
-#[derive(Clone, Copy, Debug, PartialEq, Eq)]
+#[derive(Clone, Copy, PartialEq, Eq)]
 pub enum PeerCall {
     /// A place is made where it can come.
     Listen,
@@ -33,7 +33,7 @@ impl PeerCall {
 }
 
 /// Why something that was done for a peer failed, as a person is told.
-#[derive(Debug, Drop)]
+#[derive(Drop)]
 pub struct PeerReason {
     pub call: PeerCall,
     /// The address, where one was used.

@@ -2,7 +2,7 @@ ghost use Rattle.std.specs.Prelude.{◌≡◌};
 ghost use Rattle.vd_edge.specs.Store.{access_of};
 
 /// How a file that is made may be read and written.
-#[derive(Clone, Copy, Debug, PartialEq, Eq)]
+#[derive(Clone, Copy, PartialEq, Eq)]
 pub enum Access {
     /// By its owner alone.
     Private,
@@ -13,7 +13,7 @@ pub enum Access {
 }
 
 /// What stands at a name.
-#[derive(Clone, Copy, Debug, PartialEq, Eq)]
+#[derive(Clone, Copy, PartialEq, Eq)]
 pub enum Standing {
     /// Nothing.
     Nothing,

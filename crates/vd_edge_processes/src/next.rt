@@ -1,7 +1,7 @@
 use vd_outside::Line;
 
 /// What there is of a child's next line.
-#[derive(Debug, Drop)]
+#[derive(Drop)]
 pub(crate) enum Next {
     /// All of it.
     Line(Line),

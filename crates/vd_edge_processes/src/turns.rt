@@ -43,7 +43,7 @@ fn has_failure<P: Player>(children: &mut [P]) -> bool
 }
 
 /// What a turn brought.
-#[derive(Clone, Copy, Debug, PartialEq, Eq)]
+#[derive(Clone, Copy, PartialEq, Eq)]
 enum Turn {
     /// Some child had written.
     Came,

@@ -16,14 +16,14 @@ use vd_machine::{Did, Machine, Want};
 use vd_outside::{Link, Sink};
 
 /// A machine ran to its end.
-#[derive(Clone, Copy, Debug, PartialEq, Eq)]
+#[derive(Clone, Copy, PartialEq, Eq)]
 pub struct Ended {
     /// How many words it printed.
     pub printed: u32,
 }
 
 /// What a turn was.
-#[derive(Clone, Copy, Debug, PartialEq, Eq)]
+#[derive(Clone, Copy, PartialEq, Eq)]
 enum Turn {
     /// The machine has ended.
     Over,

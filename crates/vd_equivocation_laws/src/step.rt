@@ -3,7 +3,7 @@ use vd_base_lists::Items;
 use vd_execution::{Act, Reg};
 
 /// One host's operands of a product that a dealt item masks.
-#[derive(Clone, Copy, PartialEq, Eq, Debug)]
+#[derive(Clone, Copy, PartialEq, Eq)]
 pub struct Operands {
     pub host: HostId,
     pub x: Reg,
@@ -18,7 +18,7 @@ pub struct Part {
 }
 
 /// What the next items that two hosts share will hide.
-#[derive(Clone, Copy, PartialEq, Eq, Debug)]
+#[derive(Clone, Copy, PartialEq, Eq)]
 pub enum Hidden {
     /// The operands of a product of words.
     Product(Operands, Operands),
@@ -29,7 +29,7 @@ pub enum Hidden {
 }
 
 /// A step of what hosts do together.
-#[derive(PartialEq, Eq, Debug, Drop)]
+#[derive(Drop)]
 pub enum Step {
     /// The next items will hide this.
     Hide(Hidden),

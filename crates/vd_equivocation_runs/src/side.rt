@@ -16,7 +16,7 @@ use vd_deal_items::{Deal, PairItem, Triple};
 use vd_execution::{Action, Binary, Reg};
 
 /// How many items a host took of each list; who took one past the end of a list stays one past it.
-#[derive(Clone, Copy, PartialEq, Eq, Debug)]
+#[derive(Clone, Copy, PartialEq, Eq)]
 pub struct Taken {
     pub inputs: usize,
     pub own: usize,
@@ -27,7 +27,7 @@ pub struct Taken {
 
 /// A host in one run: its registers, its inputs, its own words, and what it shares with one peer. With no other host it shares
 /// anything.
-#[derive(PartialEq, Eq, Debug, Drop)]
+#[derive(Drop)]
 pub struct Side {
     pub peer: HostId,
     pub registers: Words,

@@ -16,7 +16,7 @@ pub(crate) enum Kind {
 
 /// A block that is open: the steps before it, each host that takes part with its register, the steps of the first part of a branch
 /// once the other has begun, and how many of its ends were read.
-#[derive(PartialEq, Eq, Debug, Drop)]
+#[derive(Drop)]
 pub(crate) struct Block {
     pub before: Items<Step>,
     pub parts: Items<(u8, u32)>,

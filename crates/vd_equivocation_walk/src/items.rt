@@ -8,7 +8,7 @@ ghost use Rattle.vd_equivocation_walk.specs.Items.{pair_of, triple_of};
 use vd_deal_items::{PairItem, Triple};
 
 /// The operands of a product, in one run.
-#[derive(Clone, Copy, PartialEq, Eq, Debug)]
+#[derive(Clone, Copy, PartialEq, Eq)]
 pub(crate) struct Factors {
     pub x: u32,
     pub y: u32,

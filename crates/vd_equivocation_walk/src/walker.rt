@@ -22,7 +22,7 @@ pub(crate) struct Walker {
 }
 
 /// The part of a branch that both runs take, or that each goes its own way.
-#[derive(Clone, Copy, PartialEq, Eq, Debug)]
+#[derive(Clone, Copy, PartialEq, Eq)]
 pub(crate) enum Choice {
     Other,
     First,

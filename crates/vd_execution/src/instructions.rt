@@ -64,7 +64,7 @@ pub enum Action {
 }
 
 /// An instruction of a host's code, in text order.
-#[derive(PartialEq, Eq, Debug, Drop)]
+#[derive(Drop)]
 pub enum Instr {
     /// The host acts by itself.
     Do(Action),
@@ -83,7 +83,7 @@ pub enum Instr {
 }
 
 /// What hosts do together: one acts by itself, or one sends a packet that another then receives.
-#[derive(PartialEq, Eq, Debug, Drop)]
+#[derive(Drop)]
 pub enum Act {
     /// A host acts by itself.
     Do(HostId, Action),
@@ -92,7 +92,7 @@ pub enum Act {
 }
 
 /// A line of joint code: an act, or a mark of a block at one host that takes part in it.
-#[derive(PartialEq, Eq, Debug, Drop)]
+#[derive(Drop)]
 pub enum Line {
     /// What hosts do.
     Act(Act),

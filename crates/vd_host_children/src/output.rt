@@ -10,7 +10,7 @@ use vd_base::{HostId, Words, limits, number};
 const MOST_WORDS: usize = limits::WEIGHTS as usize;
 
 /// What a child has printed since its first line: its words, and whether it said that it ended.
-#[derive(Debug, Drop)]
+#[derive(Drop)]
 pub(crate) struct Output {
     pub words: Words,
     pub over: bool,

@@ -6,7 +6,7 @@ use vd_base_lists::Items;
 use vd_link::Digest;
 
 /// A host that is to be run: its number, the digest of its plan, and the addresses of its pairs in the order of its peers.
-#[derive(Debug, Drop)]
+#[derive(Drop)]
 pub struct Task {
     pub me: HostId,
     pub plan: Digest,

@@ -9,7 +9,7 @@ use std::marker::Model;
 use vd_base_lists::Items;
 
 /// An open block.
-#[derive(Clone, Copy, PartialEq, Eq, Debug)]
+#[derive(Clone, Copy, PartialEq, Eq)]
 pub enum Block {
     /// The first part of a branch, which `else` closes.
     First,
@@ -18,7 +18,7 @@ pub enum Block {
 }
 
 /// Whether instructions on arrays may come.
-#[derive(Clone, Copy, PartialEq, Eq, Debug)]
+#[derive(Clone, Copy, PartialEq, Eq)]
 pub enum Arrays {
     /// None may come, in a text of the first version.
     Never,

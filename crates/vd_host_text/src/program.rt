@@ -5,13 +5,13 @@ use vd_base_lists::Items;
 use vd_execution::Instr;
 
 /// A SHA-256 digest, by which the programs that were made together know each other.
-#[derive(Clone, Copy, Debug)]
+#[derive(Clone, Copy)]
 pub struct Digest {
     pub bytes: [u8; 32],
 }
 
 /// What one host executes.
-#[derive(Debug, Drop)]
+#[derive(Drop)]
 pub struct HostProgram {
     /// The names of all hosts.
     pub hosts: Names,

@@ -6,7 +6,7 @@ ghost use Rattle.vd_host_text.specs.Words as words;
 use vd_execution::{Action, Binary, Instr};
 
 /// The word with which an instruction begins.
-#[derive(Clone, Copy, PartialEq, Eq, Debug)]
+#[derive(Clone, Copy, PartialEq, Eq)]
 pub enum Word {
     Const,
     Copy,

@@ -1,7 +1,7 @@
 //! Blocks of a text that is read from its end.
 
 /// A block whose end was read, with steps that stand behind what is read of it.
-#[derive(Clone, Copy, PartialEq, Eq, Debug)]
+#[derive(Clone, Copy, PartialEq, Eq)]
 pub(crate) enum Behind {
     /// Behind the block.
     End(u64),

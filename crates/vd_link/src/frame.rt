@@ -40,7 +40,7 @@ pub fn greeting_of(plan: &Digest, from: HostId, to: HostId) -> [u8; GREETING_BYT
 }
 
 /// The bytes of a greeting or a packet that goes out, in room that was taken beforehand.
-#[derive(Debug, Drop)]
+#[derive(Drop)]
 pub(crate) struct Frame {
     bytes: Vec<u8>,
 }

@@ -15,18 +15,18 @@ use vd_base::{Failed, HostId, Packet};
 use vd_outside::{Link, send_all};
 
 /// A session that has not begun.
-#[derive(Debug, Drop)]
+#[derive(Drop)]
 pub struct Fresh;
 
 /// A session that may send and receive packets until it answers a fault.
-#[derive(Debug, Drop)]
+#[derive(Drop)]
 pub struct Greeted {
     received: u64,
     failed: bool,
 }
 
 /// A session that only gives its link back.
-#[derive(Debug, Drop)]
+#[derive(Drop)]
 pub struct Closed;
 
 /// What a host has to do with another over a link.

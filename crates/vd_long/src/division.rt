@@ -13,7 +13,7 @@ use vd_core::{Right, Slot};
 use vd_rewrite::{Made, Stop, copy_slot};
 
 /// A division of the first slot by the second.
-#[derive(Clone, Copy, PartialEq, Eq, Debug)]
+#[derive(Clone, Copy, PartialEq, Eq)]
 pub(crate) enum Division {
     Quotient(SlotId, SlotId),
     Remainder(SlotId, SlotId),

@@ -25,7 +25,7 @@ pub(crate) struct Place {
 }
 
 /// A statement of a template. Numbers 0 and 1 are the operands, and the others the new slots in order.
-#[derive(Clone, Copy, PartialEq, Eq, Debug)]
+#[derive(Clone, Copy, PartialEq, Eq)]
 pub(crate) enum Step {
     Lit(u8, u32),
     Copy(u8, u8),

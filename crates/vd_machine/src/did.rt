@@ -13,7 +13,7 @@ use vd_base::{HostId, Packet};
 use vd_execution::{Action, Reg};
 
 /// What others see of a step.
-#[derive(Clone, Copy, Debug)]
+#[derive(Clone, Copy)]
 pub enum Did {
     /// Nothing.
     Quiet,
@@ -24,7 +24,7 @@ pub enum Did {
 }
 
 /// What others will see of a step, where the words of a packet still stand in registers.
-#[derive(Clone, Copy, Debug)]
+#[derive(Clone, Copy)]
 pub enum Outgoing<'a> {
     /// Nothing.
     Quiet,

@@ -8,14 +8,14 @@ use vd_base_lists::Items;
 use vd_deal_items::{Deal, PairItem, Triple};
 
 /// A host's inputs, and what it was dealt.
-#[derive(PartialEq, Eq, Debug, Drop)]
+#[derive(Drop)]
 pub struct Lists {
     pub inputs: Words,
     pub deal: Deal,
 }
 
 /// How many items of each list were taken. The lists of a peer are counted at the peer's number.
-#[derive(PartialEq, Eq, Debug, Drop)]
+#[derive(Drop)]
 pub(crate) struct Taken {
     pub inputs: usize,
     pub own: usize,

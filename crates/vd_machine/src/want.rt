@@ -15,7 +15,7 @@ use vd_deal_items::DealKind;
 use vd_execution::Action;
 
 /// What the next instruction needs.
-#[derive(Clone, Copy, PartialEq, Eq, Debug)]
+#[derive(Clone, Copy, PartialEq, Eq)]
 pub enum Want {
     /// Nothing, or an item that is there.
     Nothing,

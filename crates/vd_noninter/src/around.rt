@@ -7,7 +7,7 @@ use vd_base::SlotId;
 use vd_base_lists::Items;
 
 /// The guards around a statement, from the outermost one inwards, and whether the host may read them all.
-#[derive(Debug, Drop)]
+#[derive(Drop)]
 pub(crate) struct Around {
     pub guards: Items<SlotId>,
     pub told: bool,

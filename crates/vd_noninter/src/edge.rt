@@ -3,7 +3,7 @@
 use vd_base::{HostId, SlotId};
 
 /// What can depend on something, or be depended on.
-#[derive(Clone, Copy, PartialEq, Eq, Debug)]
+#[derive(Clone, Copy, PartialEq, Eq)]
 pub(crate) enum Node {
     /// All that reaches the host in clear.
     Told,
@@ -14,7 +14,7 @@ pub(crate) enum Node {
 }
 
 /// What stands at `from` depends on what stands at `to`.
-#[derive(Clone, Copy, PartialEq, Eq, Debug)]
+#[derive(Clone, Copy, PartialEq, Eq)]
 pub struct Edge {
     pub from: Node,
     pub to: Node,

@@ -6,7 +6,7 @@ use std::alloc::{AllocError, Global};
 use vd_base_lists::Items;
 
 /// A set of small numbers, by whether each of them is in it, as far as the greatest.
-#[derive(Debug, Drop)]
+#[derive(Drop)]
 pub(crate) struct Marks {
     pub marks: Items<bool>,
 }

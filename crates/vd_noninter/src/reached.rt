@@ -11,7 +11,7 @@ use vd_base::HostSet;
 use vd_base_lists::Items;
 
 /// Slots that are reached, and hosts whose inputs are.
-#[derive(Debug, Drop)]
+#[derive(Drop)]
 pub(crate) struct Reached {
     pub slots: Marks,
     pub hosts: Marks,

@@ -13,7 +13,7 @@ use vd_core::NormalForm;
 use vd_formula::{Formula, Label};
 
 /// A host, and for each slot whether the host may read it.
-#[derive(Debug, Drop)]
+#[derive(Drop)]
 pub struct Reader {
     pub slots: Items<bool>,
     pub host: HostId,

@@ -4,7 +4,7 @@ ghost use Rattle.vd_outside_marks.specs.Marks.{Claims, Draws, MarksView, Release
 use vd_base::{Bytes, CallFault};
 
 /// A call that was asked of marks, with the place of its mark.
-#[derive(Debug, Drop)]
+#[derive(Drop)]
 pub enum MarksCall {
     Draw,
     Claim(Bytes),

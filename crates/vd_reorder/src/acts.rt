@@ -16,7 +16,7 @@ pub fn is_simple(action: &Action) -> bool
 }
 
 /// A list that an action takes an item from, or none.
-#[derive(Clone, Copy, PartialEq, Eq, Debug)]
+#[derive(Clone, Copy, PartialEq, Eq)]
 pub(crate) enum Taken {
     Nothing,
     Inputs,

@@ -7,14 +7,14 @@ ghost use Rattle.vd_reorder.specs.InRows.{in_row, in_rows};
 use vd_execution::{Action, Reg};
 
 /// So many registers in a row, from the first one on.
-#[derive(Clone, Copy, PartialEq, Eq, Debug)]
+#[derive(Clone, Copy, PartialEq, Eq)]
 pub struct Row {
     pub first: Reg,
     pub count: u32,
 }
 
 /// Three rows, of which some may have no register.
-#[derive(Clone, Copy, PartialEq, Eq, Debug)]
+#[derive(Clone, Copy, PartialEq, Eq)]
 pub struct Rows {
     pub first: Row,
     pub second: Row,

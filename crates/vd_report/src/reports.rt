@@ -10,7 +10,7 @@ use vd_base::{Bytes, HostState, Names, Words};
 use vd_base_lists::Items;
 
 /// How a host stands, and the words that it printed.
-#[derive(PartialEq, Eq, Debug, Drop)]
+#[derive(Drop)]
 pub struct HostLine {
     pub state: HostState,
     pub printed: Words,

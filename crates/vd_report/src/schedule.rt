@@ -17,7 +17,7 @@ use vd_base::{HostId, Names};
 use vd_base_lists::Items;
 
 /// In which order hosts step.
-#[derive(PartialEq, Eq, Debug, Drop)]
+#[derive(Drop)]
 pub struct Schedule {
     /// The hosts that step in turn, one step each where they can.
     pub entries: Items<HostId>,

@@ -8,7 +8,7 @@ use std::marker::Model;
 use vd_core::Source;
 
 /// A source with names that keeps every rule on names, kinds and limits.
-#[derive(Debug, Drop)]
+#[derive(Drop)]
 pub struct Resolved {
     source: Source,
 }

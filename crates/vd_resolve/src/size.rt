@@ -4,7 +4,7 @@ use std::cmp::max;
 
 /// Counts of statements, with one more for each inlined call; of their executions, each as often as the loops around it
 /// turn; of the loops around one statement; and of the cells of arrays.
-#[derive(Clone, Copy, PartialEq, Eq, Debug)]
+#[derive(Clone, Copy, PartialEq, Eq)]
 pub struct Size {
     pub statements: u32,
     pub weights: u32,

@@ -5,7 +5,7 @@ use vd_base::Kind;
 use vd_base_lists::Items;
 
 /// What the name of a value stands for.
-#[derive(Clone, Copy, PartialEq, Eq, Debug)]
+#[derive(Clone, Copy, PartialEq, Eq)]
 pub enum Symbol {
     /// A `let` name, a parameter or a loop's name.
     Constant(Kind),
@@ -15,7 +15,7 @@ pub enum Symbol {
 }
 
 /// The kinds of a function.
-#[derive(PartialEq, Eq, Debug, Drop)]
+#[derive(Drop)]
 pub struct Signature {
     pub parameters: Items<Kind>,
     pub result: Kind,

@@ -2,7 +2,7 @@ use vd_base_lists::Items;
 use vd_search_tree::Shift;
 
 /// What a certificate says of a prefix.
-#[derive(Clone, Copy, PartialEq, Eq, Debug)]
+#[derive(Clone, Copy, PartialEq, Eq)]
 pub enum Mark {
     /// The prefixes that go on by one choice are marked next.
     Expanded,
@@ -15,7 +15,7 @@ pub enum Mark {
 }
 
 /// The claim that a cost is the least, or that there is no valid list; and what shows it.
-#[derive(PartialEq, Eq, Debug, Drop)]
+#[derive(Drop)]
 pub struct Certificate {
     /// The stated cost; none where there is no valid list.
     pub cost: Option<u32>,

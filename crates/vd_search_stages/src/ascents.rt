@@ -80,7 +80,7 @@ pub trait Ascents {
 }
 
 /// Ascents by sweeps over all uses and over all arcs.
-#[derive(Clone, Copy, PartialEq, Eq, Debug)]
+#[derive(Clone, Copy, PartialEq, Eq)]
 pub struct Sweeps;
 
 impl Ascents for Sweeps {

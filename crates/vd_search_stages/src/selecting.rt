@@ -22,7 +22,7 @@ use vd_space_shifts::usual;
 use vd_space_tables::tables;
 
 /// What a selection came to.
-#[derive(PartialEq, Eq, Debug, Drop)]
+#[derive(Drop)]
 pub(crate) enum Selection {
     /// The choice, by the places of its protocols in the list; its cost; and a certificate of that.
     Found(Items<u32>, u32, Certificate),

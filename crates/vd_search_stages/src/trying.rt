@@ -3,7 +3,7 @@
 use crate::selecting::Selection;
 
 /// What the searches so far came to.
-#[derive(PartialEq, Eq, Debug, Drop)]
+#[derive(Drop)]
 pub(crate) enum Tried {
     /// A selection.
     Selected(Selection),

@@ -1,7 +1,7 @@
 use vd_base::Words;
 
 /// What a name holds while a source runs.
-#[derive(PartialEq, Eq, Debug, Drop)]
+#[derive(Drop)]
 pub enum Held {
     /// The word of a `let` name, a parameter or a loop name, which stays.
     Bound(u32),

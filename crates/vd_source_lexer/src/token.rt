@@ -7,7 +7,7 @@ use thiserror::Error;
 use vd_base::Span;
 
 /// What a token is.
-#[derive(Clone, Copy, PartialEq, Eq, Debug)]
+#[derive(Clone, Copy, PartialEq, Eq)]
 pub enum TokenKind {
     /// The end of the text, which is the last token and stands nowhere else.
     End,
@@ -83,7 +83,7 @@ impl TokenKind {
 }
 
 /// A token and where it stands in its text.
-#[derive(Clone, Copy, PartialEq, Eq, Debug)]
+#[derive(Clone, Copy, PartialEq, Eq)]
 pub struct Token {
     pub kind: TokenKind,
     pub span: Span,

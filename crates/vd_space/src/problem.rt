@@ -5,7 +5,7 @@ use vd_base_lists::Items;
 use vd_formula::Label;
 
 /// What a slot asks of its protocol, how often its statement is executed, and its least label.
-#[derive(Clone, Copy, PartialEq, Eq, Debug)]
+#[derive(Clone, Copy, PartialEq, Eq)]
 pub struct Making {
     pub row: Row,
     pub weight: u32,
@@ -14,7 +14,7 @@ pub struct Making {
 
 /// A value that is moved to where it is used: an operand, a variable that is loaded, an array that is read, or what is
 /// stored in one of these.
-#[derive(Clone, Copy, PartialEq, Eq, Debug)]
+#[derive(Clone, Copy, PartialEq, Eq)]
 pub struct Use {
     pub source: SlotId,
     pub target: SlotId,
@@ -22,7 +22,7 @@ pub struct Use {
 }
 
 /// A value that is told to a host.
-#[derive(Clone, Copy, PartialEq, Eq, Debug)]
+#[derive(Clone, Copy, PartialEq, Eq)]
 pub struct Output {
     pub slot: SlotId,
     pub host: HostId,
@@ -31,7 +31,7 @@ pub struct Output {
 
 /// The guard of an If, which is told to each host that takes part: the hosts of the slots that its branches name, and
 /// the hosts that are told something there.
-#[derive(PartialEq, Eq, Debug, Drop)]
+#[derive(Drop)]
 pub struct Guard {
     pub slot: SlotId,
     pub weight: u32,
@@ -40,7 +40,7 @@ pub struct Guard {
 }
 
 /// An index, which is told to each host of its array.
-#[derive(Clone, Copy, PartialEq, Eq, Debug)]
+#[derive(Clone, Copy, PartialEq, Eq)]
 pub struct Index {
     pub array: SlotId,
     pub index: SlotId,
@@ -49,7 +49,7 @@ pub struct Index {
 
 /// What the choice of protocols must know of a program: the labels of its hosts, its slots in order, and all that is
 /// moved between them, in program order.
-#[derive(PartialEq, Eq, Debug, Drop)]
+#[derive(Drop)]
 pub struct Problem {
     pub hosts: Items<Label>,
     pub slots: Items<Making>,

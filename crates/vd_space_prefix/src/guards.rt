@@ -17,7 +17,7 @@ use vd_base_lists::Items;
 use vd_space::{Guard, Problem, is_part};
 
 /// What it costs to tell a guard: to each host, at least, where its slot is not decided; and to each host from each place.
-#[derive(PartialEq, Eq, Debug, Drop)]
+#[derive(Drop)]
 pub struct Telling {
     pub slot: u32,
     pub free: Items<i64>,

@@ -15,7 +15,7 @@ use vd_space::{
 };
 
 /// The numbers of the uses, outputs, guards and indexes that name a slot.
-#[derive(PartialEq, Eq, Debug, Drop)]
+#[derive(Drop)]
 pub struct Naming {
     pub uses: Items<u32>,
     pub outputs: Items<u32>,

@@ -15,7 +15,7 @@ use vd_search_tree::Shift;
 use vd_space::Problem;
 
 /// The tables of a problem and shifts.
-#[derive(PartialEq, Eq, Debug, Drop)]
+#[derive(Drop)]
 pub struct Tables {
     /// The list of protocols.
     pub list: Items<Proto>,
@@ -40,7 +40,7 @@ pub struct Tables {
 }
 
 /// The parts of the bounds of a prefix: without shifts, under shifts, and what both have.
-#[derive(Clone, Copy, PartialEq, Eq, Debug)]
+#[derive(Clone, Copy, PartialEq, Eq)]
 pub struct Sums {
     pub low: i64,
     pub shifted: i64,

@@ -11,7 +11,7 @@ use vd_space::lesser_of;
 
 /// A value that is moved between two slots: how often, and what shifts take from its cost by the place of the protocol on
 /// either side.
-#[derive(PartialEq, Eq, Debug, Drop)]
+#[derive(Drop)]
 pub struct Transfer {
     pub first: u32,
     pub second: u32,
@@ -22,7 +22,7 @@ pub struct Transfer {
 
 /// A transfer, and what it costs at least: by the place of the first slot where the second is not decided, by the place of
 /// the second where the first is not, and where neither is.
-#[derive(PartialEq, Eq, Debug, Drop)]
+#[derive(Drop)]
 pub struct Arc {
     pub transfer: Transfer,
     pub rows: Items<i64>,

@@ -18,7 +18,7 @@ use vd_search_tree::Shift;
 use vd_space::{Problem, Use};
 
 /// The shifts so far, and by slot and place what the slot must cost after them.
-#[derive(PartialEq, Eq, Debug, Drop)]
+#[derive(Drop)]
 pub(crate) struct Ledger {
     pub terms: Items<Items<Option<u64>>>,
     pub shifts: Items<Shift>,

@@ -14,7 +14,7 @@ use vd_space::{Problem, Use};
 
 /// The rows of a table of sums: for each use what is shifted at its source, the same at its target, or for each slot what
 /// is shifted at the uses that it is a side of.
-#[derive(Clone, Copy, PartialEq, Eq, Debug)]
+#[derive(Clone, Copy, PartialEq, Eq)]
 pub(crate) enum Rows {
     Sources,
     Targets,

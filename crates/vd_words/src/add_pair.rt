@@ -14,11 +14,11 @@ use vd_duet::{Args, Backend, Clear, Duet, Parts};
 use vd_execution::{Binary, Reg};
 
 /// A host's part of a sum.
-#[derive(Clone, Copy, PartialEq, Eq, Debug)]
+#[derive(Clone, Copy, PartialEq, Eq)]
 pub struct AddShare(pub Reg);
 
 /// Two hosts that share words: a word is the sum, modulo 2^32, of their parts.
-#[derive(Clone, Copy, PartialEq, Eq, Debug)]
+#[derive(Clone, Copy, PartialEq, Eq)]
 pub struct AddPair(pub HostId, pub HostId);
 
 /// The registers of an operand that is missing.

@@ -57,7 +57,7 @@ impl Caller {
 }
 
 /// What a person is told of a run besides its line.
-#[derive(Clone, Copy, Debug, PartialEq, Eq)]
+#[derive(Clone, Copy, PartialEq, Eq)]
 pub(crate) enum Telling {
     Nothing,
     /// How many packets passed.
