@@ -23,9 +23,9 @@ use Rattle.vd_duet.specs.Laws.{Each, IsHost, IsIn, nowhere, words_at, Copies, Le
 use Rattle.vd_duet.proofs.Front.{wrote, leads_nothing, leads_on, taken_known, taken_there, taken_bounds, Since}
 use Rattle.vd_clear.specs.Copies.{written_by, each_made}
 use Rattle.vd_clear.proofs.Front.{written_there}
-use Rattle.vd_choreography.specs.Joint.{Each as EachPart}
-use Rattle.vd_choreography.specs.Suite.{Cells, Word, Gives, Ready, Below, Delivered, nothing, holders_among}
-use Rattle.vd_choreography.proofs.Front.{AreApart}
+use Rattle.vd_split.specs.Joint.{Each as EachPart}
+use Rattle.vd_split.specs.Suite.{Cells, Word, Gives, Ready, Below, Delivered, nothing, holders_among}
+use Rattle.vd_split.proofs.Front.{AreApart}
 use Rattle.vd_backend_laws.specs.Parts.{Parts, has_back_end, zeros_at, new_cells, index_of}
 use Rattle.vd_backend_laws.specs.Suite.{cell, StandForCells, stands, IsOver, holds}
 use Rattle.vd_backend_laws.proofs.Standing.{cells_of, of_cells, hosts_cell}

@@ -20,8 +20,8 @@ use Rattle.vd_duet.specs.Laws.{NumberFits, IsHost, IsIn, IsInOne, nowhere, at_ho
 use Rattle.vd_duet.proofs.Front.{leads_nothing}
 use Rattle.vd_commit.specs.Commit.{revealed}
 use Rattle.vd_commit.specs.Law.{AreReady, IsCommitted}
-use Rattle.vd_choreography.specs.Suite.{Word, Gives, Ready, Operand, Operands, NamedBy, Renews, nothing}
-use Rattle.vd_choreography.proofs.Front.{and_left, and_right}
+use Rattle.vd_split.specs.Suite.{Word, Gives, Ready, Operand, Operands, NamedBy, Renews, nothing}
+use Rattle.vd_split.proofs.Front.{and_left, and_right}
 use Rattle.vd_backend_laws.specs.Commits.{committed_at, held_of, seen_of, taken_over, bound, shown_bound, shown_to_all}
 use Rattle.vd_backend_laws.specs.Moves.{IsRoute, moved, only, shown_each}
 use Rattle.vd_backend_laws.specs.Parts.{Parts, word_in, made_of, has_back_end, back_end, route}

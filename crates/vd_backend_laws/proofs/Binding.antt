@@ -21,7 +21,7 @@ use Rattle.vd_commit.specs.declared.ends.Seen.{Seen}
 use Rattle.vd_commit.specs.Commit.{committed, revealed}
 use Rattle.vd_commit.specs.Law.{IsCommitted, AreReady, LeadsTo}
 use Rattle.vd_commit.proofs.Front.{binds, reveals}
-use Rattle.vd_choreography.specs.Suite.{Word, Gives, Ready, Operand, nothing}
+use Rattle.vd_split.specs.Suite.{Word, Gives, Ready, Operand, nothing}
 use Rattle.vd_backend_laws.specs.Commits.{committed_at, held_of, seen_of, taken_over, bound, shown_to_all}
 use Rattle.vd_backend_laws.specs.Moves.{only, shown_each}
 use Rattle.vd_backend_laws.specs.Parts.{Parts, word_in, made_of}

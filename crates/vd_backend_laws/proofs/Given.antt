@@ -11,7 +11,7 @@ use Rattle.vd_execution.specs.Step.{Source, Inputs, OwnWords, Triples, BitTriple
 use Rattle.vd_execution.specs.World.{zeros_of}
 use Rattle.vd_base.specs.Words.{IsWord}
 use Rattle.vd_duet.specs.Laws.{Each, IsHost}
-use Rattle.vd_choreography.proofs.Front.{and_left, and_right}
+use Rattle.vd_split.proofs.Front.{and_left, and_right}
 use Rattle.vd_backend_laws.specs.Suite.{is_in_order, IsOver}
 use Rattle.vd_backend_laws.specs.Given.{ListedProtocolsAreOver, item_with, ZeroDealsAreValid}
 

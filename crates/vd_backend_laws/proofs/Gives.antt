@@ -18,8 +18,8 @@ use Rattle.vd_clear.proofs.Front.{clear_laws}
 use Rattle.vd_words.proofs.Front.{add_laws}
 use Rattle.vd_bits.proofs.Front.{circuit_laws}
 use Rattle.vd_circuit.specs.CircuitCalls.{circuit_serves}
-use Rattle.vd_choreography.specs.Joint.{Hosts as AnyHosts, run_acts as run_all, AllFine}
-use Rattle.vd_choreography.specs.Suite.{Suite, Word, Gives, Leads, Ready, Operand, Operands, NamedBy, Renews}
+use Rattle.vd_split.specs.Joint.{Hosts as AnyHosts, run_acts as run_all, AllFine}
+use Rattle.vd_split.specs.Suite.{Suite, Word, Gives, Leads, Ready, Operand, Operands, NamedBy, Renews}
 use Rattle.vd_backend_laws.specs.Machine.{machine}
 use Rattle.vd_backend_laws.specs.Parts.{Parts, word_in, made_of, has_back_end, back_end}
 use Rattle.vd_backend_laws.specs.Suite.{Names, StandForCells, IsOver, holds, suite}

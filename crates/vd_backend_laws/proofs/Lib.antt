@@ -18,3 +18,6 @@ mod PlanTidy
 mod PlanRuns
 mod Whole
 mod Given
+mod Silent
+mod Sent
+mod Compared

@@ -25,7 +25,7 @@ use Rattle.vd_duet.specs.Laws.{IsIn, nowhere, Copies, StandFor, GivesThere}
 use Rattle.vd_duet.proofs.Front.{wrote, taken_known, taken_there, taken_bounds, Since}
 use Rattle.vd_clear.specs.Copies.{written_by, clear_calls}
 use Rattle.vd_clear.proofs.Front.{written_there, copies_of}
-use Rattle.vd_choreography.specs.Suite.{Word, Gives, Ready, Operand, Takes, Tells, nothing}
+use Rattle.vd_split.specs.Suite.{Word, Gives, Ready, Operand, Takes, Tells, nothing}
 use Rattle.vd_backend_laws.specs.Parts.{Parts, word_in, has_back_end, turn_part, printed}
 use Rattle.vd_backend_laws.specs.Suite.{Names, StandForCells, is_in_order, IsOver, holds, AreGiven}
 use Rattle.vd_backend_laws.proofs.Standing.{no_back_end, word_of, stand_of, names_in, in_names}

@@ -12,9 +12,9 @@ use Rattle.vd_base.specs.declared.protocols.Proto.TheVariants.{Local, Rep, Commi
 use Rattle.vd_base.specs.HostSets.{host, hosts, has_host, members}
 use Rattle.vd_base.specs.Holders.{holders, is_holder, is_among}
 use Rattle.vd_duet.specs.Laws.{Each, IsHost}
-use Rattle.vd_choreography.specs.Suite.{picked}
+use Rattle.vd_split.specs.Suite.{picked}
 use Rattle.vd_backend_laws.specs.Suite.{is_in_order}
-use Rattle.vd_choreography.proofs.Front.{AreApart, and_left, and_right, or_left, or_right}
+use Rattle.vd_split.proofs.Front.{AreApart, and_left, and_right, or_left, or_right}
 
 pub host_known : (n : ℕ) (hs : List HostId) (h : ℕ) → Each (λ k. k.0 < n) hs → IsHost hs h → h < n
 host_known n [] h e i = absurd i

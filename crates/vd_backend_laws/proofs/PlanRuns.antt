@@ -11,7 +11,7 @@ use Rattle.vd_execution.proofs.Front.{smooth_first}
 use Rattle.vd_execution.specs.Acts.{do_then, run_act, run_acts, ActsAreWithin}
 use Rattle.vd_execution.specs.Gadgets.{Gadget, Alone, Tells, Shares, BothShare, Opens, Masked, Paired, BySums, ByXors, acts_of_gadget}
 use Rattle.vd_execution.specs.Plans.{Plan, Ends, Then, Branch, Loop, joint_of, PlanIsWithin, PlanIsTidy}
-use Rattle.vd_choreography.specs.Joint.{Each, joint, choice, Goes}
+use Rattle.vd_split.specs.Joint.{Each, joint, choice, Goes}
 use Rattle.vd_backend_laws.specs.Machine.{machine, given_turn}
 use Rattle.vd_backend_laws.specs.PlanRuns.{RunsAlike, GoesSmoothly}
 

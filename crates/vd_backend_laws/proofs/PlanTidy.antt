@@ -8,8 +8,8 @@ use Rattle.vd_execution.specs.Acts.{ActsAreWithin}
 use Rattle.vd_execution.specs.Gadgets.{Gadget, Alone, Tells, Shares, BothShare, Opens, Masked, Paired, BySums, ByXors, acts_of_gadget}
 use Rattle.vd_execution.specs.Plans.{Plan, Ends, Then, Branch, Loop, PlanIsWithin}
 use Rattle.vd_duet.specs.Acting.{acts_in}
-use Rattle.vd_choreography.specs.Places.{is_part, active}
-use Rattle.vd_choreography.proofs.Front.{or_left, or_right, or_cases}
+use Rattle.vd_split.specs.ChoreographyPlaces.{is_part, active}
+use Rattle.vd_split.proofs.Front.{or_left, or_right, or_cases}
 use Rattle.vd_backend_laws.specs.Machine.{machine}
 use Rattle.vd_backend_laws.specs.PlanRuns.{TidyAlike}
 

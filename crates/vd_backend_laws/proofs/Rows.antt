@@ -15,8 +15,8 @@ use Rattle.vd_duet.specs.Calls.{Places, hosts_of, Made, Stand, AllAre, register_
 use Rattle.vd_duet.specs.Laws.{Each, IsIn, IsHost, nowhere, words_at, Copies, Gives as DuetGives, GivesThere, at_host}
 use Rattle.vd_duet.proofs.Front.{leads_nothing, leads_on, orderly_still, orderly_on, orderly_wider, Since, since_on, since_start}
 use Rattle.vd_clear.specs.Copies.{each_made}
-use Rattle.vd_choreography.specs.Suite.{Word, Gives, Ready, nothing}
-use Rattle.vd_choreography.proofs.Front.{AreApart}
+use Rattle.vd_split.specs.Suite.{Word, Gives, Ready, nothing}
+use Rattle.vd_split.proofs.Front.{AreApart}
 use Rattle.vd_backend_laws.specs.Parts.{made_of, has_back_end, back_end}
 use Rattle.vd_backend_laws.specs.Suite.{cell, IsOver}
 use Rattle.vd_backend_laws.proofs.Standing.{no_back_end}

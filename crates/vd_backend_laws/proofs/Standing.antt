@@ -10,7 +10,7 @@ use Rattle.vd_execution.specs.Text.{register}
 use Rattle.vd_duet.specs.Calls.{Places, hosts_of, Calls, Stand, register_of}
 use Rattle.vd_duet.specs.Laws.{IsIn, IsHost, words_at, AreBelow, StandFor}
 use Rattle.vd_commit.proofs.Front.{words_alike}
-use Rattle.vd_choreography.specs.Suite.{Content, Word, Cells}
+use Rattle.vd_split.specs.Suite.{Content, Word, Cells}
 use Rattle.vd_backend_laws.specs.Commits.{held_of, seen_of}
 use Rattle.vd_backend_laws.specs.Parts.{Parts, word_in, has_back_end}
 use Rattle.vd_backend_laws.specs.Suite.{cell, Names, StandForCells, IsBound, stands}

@@ -12,8 +12,8 @@ use Rattle.vd_execution.specs.World.{Tape}
 use Rattle.vd_execution.specs.Deals.{IsValidDeal}
 use Rattle.vd_execution.specs.Joint.{Part, Hosts}
 use Rattle.vd_execution.specs.Gadgets.{IsSound}
-use Rattle.vd_choreography.specs.Joint.{IsIn}
-use Rattle.vd_choreography.specs.Suite.{Laws}
+use Rattle.vd_split.specs.Joint.{IsIn}
+use Rattle.vd_split.specs.Suite.{Laws}
 use Rattle.vd_backend_laws.specs.Machine.{machine, given_turn}
 use Rattle.vd_backend_laws.specs.Suite.{holds, suite, AreGiven}
 use Rattle.vd_backend_laws.proofs.Standing.{still}

@@ -30,10 +30,10 @@ use Rattle.vd_circuit.specs.CircuitCalls.{circuit_serves}
 use Rattle.vd_convert.proofs.Front.{conversions_act}
 use Rattle.vd_commit.specs.Commit.{revealed}
 use Rattle.vd_commit.proofs.Front.{commitments_act}
-use Rattle.vd_choreography.specs.Joint.{Each, AllFine}
-use Rattle.vd_choreography.specs.Suite.{Word, Ready, Operand}
-use Rattle.vd_choreography.specs.Places.{Where, Places}
-use Rattle.vd_choreography.proofs.Front.{or_left, or_right, or_cases}
+use Rattle.vd_split.specs.Joint.{Each, AllFine}
+use Rattle.vd_split.specs.Suite.{Word, Ready, Operand}
+use Rattle.vd_split.specs.ChoreographyPlaces.{Where, Places}
+use Rattle.vd_split.proofs.Front.{or_left, or_right, or_cases}
 use Rattle.vd_backend_laws.specs.Machine.{machine}
 use Rattle.vd_backend_laws.specs.Commits.{held_of, seen_of, taken_over}
 use Rattle.vd_backend_laws.specs.Moves.{moved, moved_at, only}

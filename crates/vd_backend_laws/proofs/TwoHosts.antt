@@ -10,7 +10,7 @@ use Rattle.vd_base.specs.declared.ids.HostId.{HostId}
 use Rattle.vd_base.specs.declared.protocols.HostSet.{HostSet}
 use Rattle.vd_base.specs.HostSets.{host, has_host, size, is_pair, members}
 use Rattle.vd_duet.specs.Laws.{IsHost}
-use Rattle.vd_choreography.proofs.Front.{and_left, and_right}
+use Rattle.vd_split.proofs.Front.{and_left, and_right}
 use Rattle.vd_backend_laws.proofs.Over.{equal_of, later_than, was_there}
 
 -- ---- a set has so many members

@@ -10,12 +10,12 @@ use Rattle.vd_execution.specs.Joint.{Part, Hosts, TakesPart, Within, fresh, join
 use Rattle.vd_execution.specs.Gadgets.{Gadget, acts_of_gadget}
 use Rattle.vd_execution.specs.Plans.{Plan, Ends, Then, Branch, Loop, joint_of, PlanIsWithin, PlanIsTidy}
 use Rattle.vd_execution.proofs.Front.{within_first, plan_sound, plan_tidy}
-use Rattle.vd_execution_confluence.proofs.Front.{absent}
-use Rattle.vd_choreography.specs.Joint.{Hosts as AnyHosts, joint as run_plan}
-use Rattle.vd_choreography.specs.Suite.{Suite, Laws}
-use Rattle.vd_choreography.specs.Outcome.{Starts, TellsTheSame}
-use Rattle.vd_choreography.specs.Places.{is_part, NeedsItsLoops}
-use Rattle.vd_choreography.proofs.Front.{or_left, or_right, tells_the_same, program_tidy, program_needs_its_loops, program_within}
+use Rattle.vd_execution.proofs.Front.{absent}
+use Rattle.vd_split.specs.Joint.{Hosts as AnyHosts, joint as run_plan}
+use Rattle.vd_split.specs.Suite.{Suite, Laws}
+use Rattle.vd_split.specs.Outcome.{Starts, TellsTheSame}
+use Rattle.vd_split.specs.ChoreographyPlaces.{is_part, NeedsItsLoops}
+use Rattle.vd_split.proofs.Front.{or_left, or_right, tells_the_same, program_tidy, program_needs_its_loops, program_within}
 use Rattle.vd_backend_laws.specs.Machine.{machine}
 use Rattle.vd_backend_laws.specs.Suite.{suite}
 use Rattle.vd_backend_laws.specs.Whole.{plan_at, code_at, inputs_of, CanRun, RunsAsToldBy, CodeTellsTheSame, CodeRunsWell, LoopsAreNeeded}

@@ -18,8 +18,8 @@ use Rattle.vd_execution.proofs.Front.{put_same, put_other}
 use Rattle.vd_duet.specs.Calls.{Places, hosts_of, Stand, register_of}
 use Rattle.vd_duet.specs.Laws.{IsHost, IsIn, words_at, Leads as DuetLeads}
 use Rattle.vd_duet.proofs.Front.{leads_nothing, leads_on}
-use Rattle.vd_choreography.specs.Suite.{Word, Cells, Ready, Below, Operand, Delivered, Renews, holders_among}
-use Rattle.vd_choreography.proofs.Front.{AreApart}
+use Rattle.vd_split.specs.Suite.{Word, Cells, Ready, Below, Operand, Delivered, Renews, holders_among}
+use Rattle.vd_split.proofs.Front.{AreApart}
 use Rattle.vd_backend_laws.specs.Parts.{Parts, has_back_end, index_of, cell_written}
 use Rattle.vd_backend_laws.specs.Suite.{cell, Names, StandForCells, stands, IsOver, holds}
 use Rattle.vd_backend_laws.proofs.Standing.{none_more, cells_of, of_cells}

@@ -7,3 +7,7 @@ pub mod PlanRuns
 pub mod Law
 pub mod Whole
 pub mod Given
+pub mod Openings
+pub mod BackendOpeningsLaw
+pub mod Sent
+pub mod Compared

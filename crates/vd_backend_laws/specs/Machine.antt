@@ -7,7 +7,7 @@ use Rattle.vd_execution.specs.Joint.{Part, Hosts}
 use Rattle.vd_execution.specs.Acts.{run_acts, ActsAgree}
 use Rattle.vd_execution.specs.Gadgets.{Gadget, acts_of_gadget, GadgetIsTidy, IsSound}
 use Rattle.vd_duet.specs.Acting.{acts_in}
-use Rattle.vd_choreography.specs.Joint.{Hosts as AnyHosts}
+use Rattle.vd_split.specs.Joint.{Hosts as AnyHosts}
 
 -- the registers that a host has in a list get the number of the turn
 abbrev pub given_turn : List Part → ℕ → ℕ → Registers → Registers

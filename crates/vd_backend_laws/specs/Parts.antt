@@ -16,7 +16,7 @@ use Rattle.vd_duet.specs.Laws.{at_host}
 use Rattle.vd_clear.specs.Copies.{written_by, each_made, clear_calls}
 use Rattle.vd_words.specs.AddCalls.{add_calls}
 use Rattle.vd_circuit.specs.CircuitCalls.{circuit_calls}
-use Rattle.vd_choreography.specs.Suite.{Calls as AllCalls, Made as AnyMade}
+use Rattle.vd_split.specs.Suite.{Calls as AllCalls, Made as AnyMade}
 use Rattle.vd_backend_laws.specs.Commits.{commit_calls}
 use Rattle.vd_backend_laws.specs.Moves.{Route, Share, Adopt, Show, ShowAll, Spread, Same, SameBound, ToXor, ToAdd, moved, moved_at}
 

@@ -4,8 +4,8 @@ use Rattle.vd_execution.specs.World.{Tape}
 use Rattle.vd_execution.specs.Joint.{Hosts, IsSmooth, joint as run_code}
 use Rattle.vd_execution.specs.Gadgets.{Gadget}
 use Rattle.vd_execution.specs.Plans.{Plan, joint_of, PlanIsTidy}
-use Rattle.vd_choreography.specs.Joint.{joint, Goes}
-use Rattle.vd_choreography.specs.Places.{Tidy}
+use Rattle.vd_split.specs.Joint.{joint, Goes}
+use Rattle.vd_split.specs.ChoreographyPlaces.{Tidy}
 use Rattle.vd_backend_laws.specs.Machine.{machine}
 
 -- a tidy plan runs as its joint code does

@@ -14,7 +14,7 @@ use Rattle.vd_execution.specs.Joint.{Hosts}
 use Rattle.vd_execution.specs.Text.{register}
 use Rattle.vd_duet.specs.Calls.{Places, hosts_of, Stand}
 use Rattle.vd_duet.specs.Laws.{IsIn, IsHost, words_at}
-use Rattle.vd_choreography.specs.Suite.{Suite, Content, Word, Cells}
+use Rattle.vd_split.specs.Suite.{Suite, Content, Word, Cells}
 use Rattle.vd_backend_laws.specs.Machine.{machine}
 use Rattle.vd_backend_laws.specs.Commits.{committed_at, held_of, seen_of}
 use Rattle.vd_backend_laws.specs.Parts.{Parts, suite_calls}

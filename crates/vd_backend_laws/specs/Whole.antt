@@ -10,11 +10,11 @@ use Rattle.vd_execution.specs.Deals.{IsValidDeal}
 use Rattle.vd_execution.specs.Joint.{Joint, fresh, joint, IsTidy, IsSmooth}
 use Rattle.vd_execution.specs.Gadgets.{Gadget, IsSound}
 use Rattle.vd_execution.specs.Plans.{Plan, joint_of, PlanIsTidy}
-use Rattle.vd_execution_confluence.specs.Claims.{RunsWell, IsOf}
-use Rattle.vd_choreography.specs.Emission.{block_emission, emitting_at_start}
+use Rattle.vd_execution.specs.Claims.{RunsWell, IsOf}
+use Rattle.vd_split.specs.Emission.{block_emission, emitting_at_start}
 use Rattle.vd_core.specs.Numbers.{NumbersFit}
-use Rattle.vd_choreography.specs.Outcome.{ValidAt}
-use Rattle.vd_choreography.specs.Places.{NeedsItsLoops}
+use Rattle.vd_split.specs.Outcome.{ValidAt}
+use Rattle.vd_split.specs.ChoreographyPlaces.{NeedsItsLoops}
 use Rattle.vd_backend_laws.specs.Machine.{machine}
 use Rattle.vd_backend_laws.specs.Parts.{suite_calls}
 use Rattle.vd_backend_laws.specs.Suite.{IsOver, suite, AreGiven}

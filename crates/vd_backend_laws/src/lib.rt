@@ -41,3 +41,9 @@ pub fn protocols_and_deals()
     ensures protocols { ListedProtocolsAreOver }
     ensures deals { ZeroDealsAreValid }
 {}
+
+mod backend_openings;
+
+pub use backend_openings::{
+    only_what_is_shown_is_told, so_many_words_are_sent, what_differs_is_found,
+};

@@ -12,8 +12,7 @@ ghost use Rattle.vd_backend_moves.specs.Formed.{AreFormed, is_named};
 ghost use Rattle.vd_backend_moves.specs.Moving.{Shows};
 
 use std::alloc::{AllocError, Global};
-use vd_base::HostId;
-use vd_base_lists::Items;
+use vd_base::{HostId, Items};
 use vd_commit::{Held, Seen, commit, reveal};
 use vd_duet::{Clear, Duet, Parts};
 use vd_execution::Reg;

@@ -6,7 +6,7 @@ ghost use Rattle.vd_bits.specs.BitParts.{all_parts_of, parts_of};
 ghost use Rattle.vd_convert.specs.Convert.{added_parts};
 
 use std::alloc::{AllocError, Global};
-use vd_base_lists::Items;
+use vd_base::Items;
 use vd_bits::XorShare;
 use vd_duet::{Args, Clear, Parts};
 use vd_words::AddShare;

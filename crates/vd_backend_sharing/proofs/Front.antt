@@ -9,3 +9,7 @@ pub use Rattle.vd_backend_sharing.proofs.PairActs.{applied_acts, numbered_acts, 
 pub use Rattle.vd_backend_sharing.proofs.Operations.{ItemsMultiply, applied_gives, numbered_gives, product_gives}
 pub use Rattle.vd_backend_sharing.proofs.Rooms.{both_few}
 pub use Rattle.vd_backend_sharing.proofs.Chains.{gives_then, parts_later}
+pub use Rattle.vd_backend_sharing.proofs.Gates.{few, gates_compute, in_order}
+pub use Rattle.vd_backend_sharing.proofs.BackendAlgebraParts.{mask_each, put_on, scale_each, shl_each, shr_each, taken_off, xor_past, xor_turn}
+pub use Rattle.vd_backend_sharing.proofs.BitProducts.{bit_product}
+pub use Rattle.vd_backend_sharing.proofs.WordProducts.{word_product}

@@ -12,3 +12,14 @@ mod Operations
 mod Rooms
 mod Emitted
 mod Chains
+mod Bits
+mod Carries
+mod Sums
+mod Comparisons
+mod Choices
+mod Computing
+mod Gates
+mod BackendAlgebraParts
+mod BitProducts
+mod WordProducts
+mod Conversions

@@ -8,8 +8,7 @@ ghost use Rattle.vd_backend_sharing.specs.PairCalls.{AreLow, reserved_both, lite
 
 use crate::shares::{Shares, Sharing};
 use std::alloc::AllocError;
-use vd_base::HostId;
-use vd_base_lists::Items;
+use vd_base::{HostId, Items};
 use vd_duet::{Clear, Duet, Parts, register_at};
 use vd_execution::{Act, Action, Binary, Reg};
 

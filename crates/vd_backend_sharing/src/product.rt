@@ -9,8 +9,7 @@ ghost use Rattle.vd_backend_sharing.specs.PairCalls.{AreLow, masking_from, unmas
 use crate::pair::Pair;
 use crate::shares::{Shares, Sharing};
 use std::alloc::AllocError;
-use vd_base::HostId;
-use vd_base_lists::Items;
+use vd_base::{HostId, Items};
 use vd_duet::Duet;
 use vd_execution::{Act, Action, Reg};
 

@@ -5,7 +5,7 @@ use Rattle.std.specs.List.{list_any}
 use Rattle.std.proofs.lemmas.List.FromFn.{filter_of_map_range_with_len_more}
 use Rattle.vd_base.specs.declared.ids.HostId.{HostId}
 use Rattle.vd_base.specs.HostSets.{host, hosts}
-use Rattle.vd_choreography.proofs.Front.{or_left, or_right}
+use Rattle.vd_split.proofs.Front.{or_left, or_right}
 
 module _ (p test : HostId → Bool) where
   abbrev any_of : ℕ → Bool

@@ -6,7 +6,7 @@ use Rattle.vd_base.specs.declared.ids.HostId.{HostId}
 use Rattle.vd_base.specs.declared.protocols.Proto.{Proto}
 use Rattle.vd_base.specs.Holders.{holders}
 use Rattle.vd_duet.specs.Laws.{Each, AreKnown}
-use Rattle.vd_choreography.proofs.Front.{and_left, and_right, AreApart as Apart}
+use Rattle.vd_split.proofs.Front.{and_left, and_right, AreApart as Apart}
 use Rattle.vd_backend_laws.specs.Suite.{is_in_order}
 use Rattle.vd_backend_laws.proofs.Front.{holders_apart}
 use Rattle.vd_backends.specs.Offered.{is_offered, AreApart}

@@ -16,9 +16,9 @@ use Rattle.vd_core.specs.declared.normal.Stmt.TheOpen.{Stmt-F}
 use Rattle.vd_core.specs.Facts.{meets, blocks_meet}
 use Rattle.vd_execution.specs.World.{Tape}
 use Rattle.vd_duet.specs.Laws.{Each}
-use Rattle.vd_choreography.specs.Block.{Block, End, Let, NewVar, NewArray, Store, Put, Output, If, For, block_of, each}
-use Rattle.vd_choreography.specs.Validity.{Placed, RightPlaced}
-use Rattle.vd_choreography.proofs.Front.{fold_each}
+use Rattle.vd_split.specs.Block.{Block, End, Let, NewVar, NewArray, Store, Put, Output, If, For, block_of, each}
+use Rattle.vd_split.specs.Validity.{Placed, RightPlaced}
+use Rattle.vd_split.proofs.Front.{fold_each}
 use Rattle.vd_split.specs.Offer.{right_stands, stmt_stands}
 use Rattle.vd_backend_laws.specs.Machine.{machine}
 use Rattle.vd_backend_laws.specs.Parts.{back_end}

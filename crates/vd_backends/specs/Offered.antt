@@ -8,7 +8,7 @@ use Rattle.vd_core.specs.declared.normal.NormalForm.{NormalForm}
 use Rattle.vd_core.specs.Facts.{all_meet, IsWellMade}
 use Rattle.vd_execution.specs.World.{Tape}
 use Rattle.vd_duet.specs.Laws.{IsHost}
-use Rattle.vd_choreography.specs.Outcome.{ValidAt}
+use Rattle.vd_split.specs.Outcome.{ValidAt}
 use Rattle.vd_split.specs.Offer.{Offer, AreServed, stmt_stands}
 use Rattle.vd_backend_laws.specs.Machine.{machine}
 use Rattle.vd_backend_laws.specs.Parts.{Parts, back_end, suite_calls}

@@ -8,15 +8,14 @@ ghost use Rattle.vd_duet.specs.Calls.{Makes, appended, hosts_of, in_clear, regis
 ghost use Rattle.vd_base.specs.Holders.{holders as holders_of};
 ghost use Rattle.vd_duet.specs.Laws.{AreKnown};
 ghost use Rattle.vd_clear.specs.Copies.{each_made, written_by};
-ghost use Rattle.vd_choreography.specs.Suite.{Made as AnyMade};
+ghost use Rattle.vd_split.specs.Suite.{Made as AnyMade};
 ghost use Rattle.vd_backend_laws.specs.Parts.{cell_read, cell_written, index_of, new_cells, zeros_at};
 ghost use Rattle.vd_backend_moves.specs.Formed.{AreFormed};
 ghost use Rattle.vd_backends.specs.Offered.{AreApart};
 
 use crate::held::Held;
 use std::alloc::AllocError;
-use vd_base::{HostId, Proto, holders};
-use vd_base_lists::Items;
+use vd_base::{HostId, Items, Proto, holders};
 use vd_clear::{Step, each_host};
 use vd_duet::{Clear, Duet, Parts, register_at};
 use vd_execution::{Act, Action, Reg};

@@ -5,7 +5,7 @@ ghost use Rattle.vd_duet.specs.Calls.{all_placed};
 
 use crate::held::Held;
 use std::alloc::{AllocError, Global};
-use vd_base_lists::Items;
+use vd_base::Items;
 use vd_duet::{Args, Clear};
 
 /// The registers of operands.

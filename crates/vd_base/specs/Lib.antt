@@ -11,3 +11,4 @@ pub mod Limits
 pub mod Packets
 pub mod Identities
 pub mod Words
+pub mod formers

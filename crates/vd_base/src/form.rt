@@ -1,5 +1,5 @@
 use crate::Name;
-use vd_base_lists::Items;
+use crate::base_lists::Items;
 
 /// A monotone formula over principals, as it is written.
 #[derive(PartialEq, Eq, Debug, Drop)]

@@ -1,8 +1,8 @@
 ghost use Rattle.std.specs.Prelude.{◌≡◌, ◌≤◌, IfOk, length};
 
+use crate::base_lists::Items;
 use crate::{HostId, HostSet};
 use std::alloc::{AllocError, Global};
-use vd_base_lists::Items;
 
 impl HostSet {
     ghost use Rattle.vd_base.specs.HostSets.{has_host, is_pair, members, outside, size};

@@ -2,6 +2,7 @@
 #![tactic(auto)]
 
 mod arithmetic;
+mod base_lists;
 mod faults;
 mod form;
 mod host_sets;
@@ -19,6 +20,7 @@ mod text;
 mod words;
 
 pub use arithmetic::combine;
+pub use base_lists::{Boxed, Items};
 pub use faults::{CallFault, Failed, FileFault};
 pub use form::Form;
 pub use host_state::HostState;

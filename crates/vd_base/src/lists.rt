@@ -1,4 +1,4 @@
-use vd_base_lists::Items;
+use crate::base_lists::Items;
 
 /// The bytes of a file or of a printed text.
 pub type Bytes = Items<u8>;

@@ -3,9 +3,9 @@ ghost use Rattle.vd_base.specs.HostSets.{host};
 ghost use Rattle.vd_base.specs.Holders.{has_clear, holders, is_among, is_holder, proto_in, same_protocol};
 ghost use Rattle.vd_base.specs.declared.protocols.Proto.{Proto as Protocols};
 
+use crate::base_lists::Items;
 use crate::{HostId, SlotId};
 use std::alloc::{AllocError, Global};
-use vd_base_lists::Items;
 
 /// A set of hosts, by the number whose bit h stands for host h.
 #[derive(Clone, Copy, PartialEq, Eq)]

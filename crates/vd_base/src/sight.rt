@@ -3,11 +3,11 @@
 ghost use Rattle.std.specs.Prelude.{◌≡◌, [], ◌∷◌, ◌++◌, length, take, option_copied, OnOk, OnErr};
 ghost use Rattle.vd_base.specs.Names.{at_name, changed};
 
+use crate::base_lists::Items;
 use crate::lists::Name;
 use std::alloc::{AllocError, Global};
 use std::marker::Model;
 use std::mem;
-use vd_base_lists::Items;
 
 /// Names in sight, the newest last, each with what it stands for: the first entry of a name has it.
 #[derive(Drop)]

@@ -1,8 +1,8 @@
 ghost use Rattle.std.specs.Prelude.{◌≡◌, IfOk, OnOk, OnErr, [], ◌∷◌, ◌++◌};
 
+use crate::base_lists::Items;
 use std::alloc::{AllocError, Global};
 use std::marker::Model;
-use vd_base_lists::Items;
 
 /// A text that contracts see as its bytes.
 #[derive(Debug, Drop)]

@@ -10,8 +10,8 @@ use Rattle.vd_execution.specs.declared.instructions.Binary.TheVariants as binary
 use Rattle.vd_execution.specs.Gadgets.{ByXors}
 use Rattle.vd_duet.specs.Calls.{Places}
 use Rattle.vd_duet.specs.Acting.{is_either, acts_in, acts_at, is_negation, apply_at, ActsWhereItSays}
-use Rattle.vd_backend_algebra.specs.Computing.{HasCircuit}
-use Rattle.vd_backend_algebra.specs.Gates.{Gate, And, Xor, Shl, Shr, Not, Flip, Lowest, Mask, gates_of}
+use Rattle.vd_backend_sharing.specs.Computing.{HasCircuit}
+use Rattle.vd_backend_sharing.specs.Gates.{Gate, And, Xor, Shl, Shr, Not, Flip, Lowest, Mask, gates_of}
 use Rattle.vd_backend_sharing.specs.declared.shares.Shares.{Shares}
 use Rattle.vd_backend_sharing.specs.PairCalls.{shares_of, pair_calls}
 use Rattle.vd_backend_sharing.proofs.Front.{applied_acts, numbered_acts, product_acts, pair_acts}

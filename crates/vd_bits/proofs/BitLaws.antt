@@ -16,9 +16,9 @@ use Rattle.vd_duet.specs.Builder.{most_taken}
 use Rattle.vd_duet.specs.Calls.{Places, Made}
 use Rattle.vd_duet.specs.Laws.{IsInOne, Gives, GivesWord, StandFor, Operands, IsReady, BackendLaws}
 use Rattle.vd_duet.proofs.Front.{orderly_wider}
-use Rattle.vd_backend_algebra.specs.Computing.{HasCircuit}
-use Rattle.vd_backend_algebra.specs.Gates.{gates_of, after, newest}
-use Rattle.vd_backend_algebra.proofs.Front.{gates_compute, in_order, few}
+use Rattle.vd_backend_sharing.specs.Computing.{HasCircuit}
+use Rattle.vd_backend_sharing.specs.Gates.{gates_of, after, newest}
+use Rattle.vd_backend_sharing.proofs.Front.{gates_compute, in_order, few}
 use Rattle.vd_backend_sharing.specs.declared.shares.Shares.{Shares}
 use Rattle.vd_backend_sharing.specs.PairCalls.{shares_of, places_at, at_hosts, pair_calls}
 use Rattle.vd_backend_sharing.proofs.Front.{parts_of, parts_named, pair_laws}

@@ -10,7 +10,7 @@ use Rattle.vd_execution.specs.Gadgets.{ByXors}
 use Rattle.vd_duet.specs.Calls.{Places, Made}
 use Rattle.vd_duet.specs.Laws.{nowhere, IsIn, Gives, StandFor, IsReady}
 use Rattle.vd_duet.proofs.Front.{leads_nothing, orderly_still, Since}
-use Rattle.vd_backend_algebra.specs.Gates.{Gate, taken_by, are_in_order, after, newest, made_by}
+use Rattle.vd_backend_sharing.specs.Gates.{Gate, taken_by, are_in_order, after, newest, made_by}
 use Rattle.vd_backend_sharing.specs.declared.shares.Shares.{Shares}
 use Rattle.vd_backend_sharing.specs.PairCalls.{places_at, at_hosts, pair_calls}
 use Rattle.vd_backend_sharing.proofs.Front.{both_first, both_second, Parts, stands_by, gives_then}

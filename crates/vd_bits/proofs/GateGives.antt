@@ -15,9 +15,9 @@ use Rattle.vd_execution.specs.Text.{register}
 use Rattle.vd_duet.specs.Builder.{most_taken, TakesAtMost}
 use Rattle.vd_duet.specs.Calls.{Places, Made}
 use Rattle.vd_duet.specs.Laws.{Gives, GivesWord, StandFor, IsReady}
-use Rattle.vd_backend_algebra.specs.Circuits.{shl, shr, mask_of}
-use Rattle.vd_backend_algebra.specs.Gates.{Gate, And, Xor, Shl, Shr, Not, Flip, Lowest, Mask, made_by, taken_by}
-use Rattle.vd_backend_algebra.proofs.Front.{xor_past, xor_turn, shl_each, shr_each, mask_each, bit_product}
+use Rattle.vd_backend_sharing.specs.Circuits.{shl, shr, mask_of}
+use Rattle.vd_backend_sharing.specs.Gates.{Gate, And, Xor, Shl, Shr, Not, Flip, Lowest, Mask, made_by, taken_by}
+use Rattle.vd_backend_sharing.proofs.Front.{xor_past, xor_turn, shl_each, shr_each, mask_each, bit_product}
 use Rattle.vd_backend_sharing.specs.declared.shares.Shares.{Shares}
 use Rattle.vd_backend_sharing.specs.Sharings.{joined}
 use Rattle.vd_backend_sharing.specs.PairCalls.{two, places_at, at_hosts, pair_calls}

@@ -3,7 +3,7 @@ use Rattle.std.proofs.Common.{ℕ, ◌+◌, ◌<◌, ◌≤◌, List, [], ◌∷
 use Rattle.vd_base.specs.declared.ids.HostId.{HostId}
 use Rattle.vd_duet.specs.Builder.{taken, TakesAtMost}
 use Rattle.vd_duet.proofs.Front.{taken_known, taken_bounds}
-use Rattle.vd_backend_algebra.specs.Gates.{Gate, And, Xor, Shl, Shr, Not, Flip, Lowest, Mask}
+use Rattle.vd_backend_sharing.specs.Gates.{Gate, And, Xor, Shl, Shr, Not, Flip, Lowest, Mask}
 use Rattle.vd_backend_sharing.specs.declared.shares.Shares.{Shares}
 use Rattle.vd_backend_sharing.specs.PairCalls.{product_shares}
 use Rattle.vd_backend_sharing.proofs.Front.{both_few}

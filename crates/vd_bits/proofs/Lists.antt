@@ -3,9 +3,9 @@ use Rattle.std.proofs.Common.{◌≡◌, ℕ, ◌≤◌, IsTrue, List, [], ◌�
 use Rattle.std.proofs.lemmas.List.{map-append, length-map}
 use Rattle.vd_base.specs.declared.operations.Op.{Op}
 use Rattle.vd_base.specs.declared.operations.Op.TheVariants as op
-use Rattle.vd_backend_algebra.specs.Computing.{HasCircuit}
-use Rattle.vd_backend_algebra.specs.Gates.{Gate, adding, subtracting, gates_of}
-use Rattle.vd_backend_algebra.proofs.Front.{few}
+use Rattle.vd_backend_sharing.specs.Computing.{HasCircuit}
+use Rattle.vd_backend_sharing.specs.Gates.{Gate, adding, subtracting, gates_of}
+use Rattle.vd_backend_sharing.proofs.Front.{few}
 use Rattle.vd_bits.specs.declared.gates.Gate.{Gate as Written}
 use Rattle.vd_bits.specs.BitCalls.{gate_of, gates_in, bit_serves}
 

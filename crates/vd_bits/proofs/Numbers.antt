@@ -1,7 +1,7 @@
 -- The worked numbers, computed.
 use Rattle.std.proofs.Common.{refl}
 use Rattle.vd_execution.specs.Registers.{put}
-use Rattle.vd_backend_algebra.specs.Gates.{gates_of}
+use Rattle.vd_backend_sharing.specs.Gates.{gates_of}
 use Rattle.vd_backend_sharing.specs.PairCalls.{product_shares}
 use Rattle.vd_bits.specs.Example.{EightIsInBoth}
 

@@ -5,7 +5,7 @@ use Rattle.vd_base.specs.declared.ids.HostId.{HostId}
 use Rattle.vd_execution.specs.declared.instructions.Line.{Line}
 use Rattle.vd_duet.specs.Builder.{Builder, TakesAtMost}
 use Rattle.vd_duet.specs.Calls.{called, Made}
-use Rattle.vd_backend_algebra.specs.Gates.{Gate}
+use Rattle.vd_backend_sharing.specs.Gates.{Gate}
 use Rattle.vd_duet.proofs.Front.{emitted_append}
 use Rattle.vd_backend_sharing.specs.declared.shares.Shares.{Shares}
 use Rattle.vd_bits.specs.declared.gates.Gate.{Gate as Written}

@@ -10,7 +10,7 @@ use Rattle.vd_execution.specs.Gadgets.{ByXors, Gadget, Alone}
 use Rattle.vd_execution.specs.Text.{register}
 use Rattle.vd_duet.specs.Builder.{next_at, taken}
 use Rattle.vd_duet.specs.Calls.{Places, Made, Calls}
-use Rattle.vd_backend_algebra.specs.Gates.{Gate, And, Xor, Shl, Shr, Not, Flip, Lowest, Mask, gates_of}
+use Rattle.vd_backend_sharing.specs.Gates.{Gate, And, Xor, Shl, Shr, Not, Flip, Lowest, Mask, gates_of}
 use Rattle.vd_backend_sharing.specs.declared.shares.Shares.{Shares}
 use Rattle.vd_backend_sharing.specs.PairCalls.{AreUnder, two, fresh_at, applied_shares, numbered_shares, product_shares, shares_of, at_hosts, pair_calls}
 use Rattle.vd_bits.specs.declared.gates.Gate.{Gate as Written}

@@ -9,7 +9,7 @@ use Rattle.vd_execution.specs.Joint.{Hosts}
 use Rattle.vd_duet.specs.Acting.{ActsWhereItSays}
 use Rattle.vd_duet.specs.Calls.{Places}
 use Rattle.vd_duet.specs.Laws.{IsInOne, GivesWord, Operands, IsReady, BackendLaws}
-use Rattle.vd_backend_algebra.specs.Computing.{HasCircuit}
+use Rattle.vd_backend_sharing.specs.Computing.{HasCircuit}
 use Rattle.vd_bits.specs.BitCalls.{computed, bit_calls}
 
 -- of two hosts that differ

@@ -2,13 +2,12 @@
 
 ghost use Rattle.std.specs.Prelude.{◌≡◌, ◌<◌, ◌≤◌, ◌++◌, IfOk, OnOk, IsTrue, length};
 ghost use Rattle.vd_base.specs.declared.operations.Op.TheVariants as op;
-ghost use Rattle.vd_backend_algebra.specs.Gates.{doubling as doubling_of, carrying as carrying_of, adding as adding_of, subtracting as subtracting_of, gates_of};
+ghost use Rattle.vd_backend_sharing.specs.Gates.{doubling as doubling_of, carrying as carrying_of, adding as adding_of, subtracting as subtracting_of, gates_of};
 ghost use Rattle.vd_bits.specs.BitCalls.{gates_in, bit_serves};
 
 use crate::gates::Gate;
 use std::alloc::{AllocError, Global};
-use vd_base::Op;
-use vd_base_lists::Items;
+use vd_base::{Items, Op};
 
 /// Groups of twice as many bits: where carries are generated stands at `g`, and where they are propagated at `p`.
 #[tactic(auto, using(crate::proofs::Lists::gates_append))]
@@ -67,7 +66,7 @@ pub fn subtracting(x: usize, y: usize, n: usize, to: &mut Items<Gate>) -> Result
 }
 
 /// The gates of an operation that goes bit by bit or moves bits, of operands at the first places.
-#[tactic(auto, using(crate::proofs::Lists::gates_append), unfolding(vd_backend_algebra::specs::Gates::gates_of))]
+#[tactic(auto, using(crate::proofs::Lists::gates_append), unfolding(vd_backend_sharing::specs::Gates::gates_of))]
 pub fn bit_gates(op: Op, to: &mut Items<Gate>) -> Result<(), AllocError>
     requires { IsTrue (bit_serves op) }
     ensures { OnOk result (gates_in to.new ≡ gates_in to.old ++ gates_of op) }

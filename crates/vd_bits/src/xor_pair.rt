@@ -13,8 +13,7 @@ use crate::gates::Gate;
 use crate::steps::{mask, part, shift_left, shift_right, turn};
 use std::alloc::{AllocError, Global};
 use vd_backend_sharing::{Pair, Shares, Sharing};
-use vd_base::{HostId, Op, Proto};
-use vd_base_lists::Items;
+use vd_base::{HostId, Items, Op, Proto};
 use vd_duet::{Args, Backend, Clear, Duet, Parts};
 use vd_execution::{Binary, Reg};
 

@@ -4,8 +4,8 @@ use Rattle.std.specs.Prelude.{IfOk, ◌≢◌, is_some, is_none, ◌==◌}
 use Rattle.std.specs.Ordering.{int_eq}
 use Rattle.std.proofs.lemmas.Bool.{true≢false, cond-true, or_parts, not-false, eqb-true}
 use Rattle.vd_search_tree.specs.Trees.{Tree, IsBounded}
-use Rattle.vd_search_certificate.specs.declared.certificate.Mark.{Mark}
-use Rattle.vd_search_certificate.specs.declared.certificate.Mark.TheVariants.{Expanded, Violated, Bounded, Best}
+use Rattle.vd_search_tree.specs.declared.search_certificate.certificate.Mark.{Mark}
+use Rattle.vd_search_tree.specs.declared.search_certificate.certificate.Mark.TheVariants.{Expanded, Violated, Bounded, Best}
 use Rattle.vd_bound.specs.declared.checking.Reading.{Reading}
 use Rattle.vd_bound.specs.declared.checking.Found.{Found}
 use Rattle.vd_bound.specs.declared.checking.Proved.{Proved}

@@ -3,8 +3,8 @@ use Rattle.std.proofs.Common.{◌≡◌, ℕ, ◌+◌, Bool, true, false, ◌||�
 use Rattle.std.specs.Prelude.{IfSome, ◌==◌, if◌then◌else◌, is_none, is_some}
 use Rattle.std.proofs.lemmas.Bool.{true≢false, eqb-true}
 use Rattle.vd_search_tree.specs.Trees.{IsEmpty, Tree}
-use Rattle.vd_search_certificate.specs.declared.certificate.Mark.{Mark}
-use Rattle.vd_search_certificate.specs.declared.certificate.Mark.TheVariants.{Expanded, Violated, Bounded, Best}
+use Rattle.vd_search_tree.specs.declared.search_certificate.certificate.Mark.{Mark}
+use Rattle.vd_search_tree.specs.declared.search_certificate.certificate.Mark.TheVariants.{Expanded, Violated, Bounded, Best}
 use Rattle.vd_bound.specs.Marks.{AreTrees, IsSound, MarkHolds, opened_by}
 use Rattle.vd_bound.specs.Checking.{Proves, checked, first_of, found_at, judge, judge_all, judge_found, misplaced, nothing_read, or_proved, read_mark, read_marks}
 use Rattle.vd_bound.specs.declared.checking.CheckFault.{CheckFault}

@@ -1,7 +1,7 @@
 -- What the checker and sound certificates have to do with each other.
 use Rattle.std.specs.Prelude.{◌≡◌, ℕ, Ok, Option, List}
 use Rattle.vd_search_tree.specs.Trees.{Tree}
-use Rattle.vd_search_certificate.specs.declared.certificate.Mark.{Mark}
+use Rattle.vd_search_tree.specs.declared.search_certificate.certificate.Mark.{Mark}
 use Rattle.vd_bound.specs.declared.checking.Proved.{Proved}
 use Rattle.vd_bound.specs.Marks.{IsSound, Shows}
 use Rattle.vd_bound.specs.Checking.{checked}

@@ -3,7 +3,7 @@ use Rattle.std.specs.Prelude.{ℕ, ◌+◌, Bool, ◌&&◌, not, nat_lt, if◌th
 use Rattle.std.specs.Option.{option_map_or}
 use Rattle.vd_search_tree.specs.declared.shift.Shift.{Shift}
 use Rattle.vd_search_tree.specs.Trees.{Tree}
-use Rattle.vd_search_certificate.specs.declared.certificate.Certificate.{Certificate}
+use Rattle.vd_search_tree.specs.declared.search_certificate.certificate.Certificate.{Certificate}
 use Rattle.vd_bound.specs.declared.checking.CheckFault.{CheckFault}
 use Rattle.vd_bound.specs.declared.checking.CheckFault.TheVariants.{BadShift}
 use Rattle.vd_bound.specs.declared.checking.Proved.{Proved}

@@ -3,3 +3,6 @@ mod Blocks
 mod Distinct
 mod Pieces
 mod Twice
+mod Ends
+mod OneMore
+mod Purposes

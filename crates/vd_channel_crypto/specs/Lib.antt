@@ -4,3 +4,6 @@ pub mod Keys
 pub mod Laws
 pub mod Records
 pub mod Streams
+pub mod DealKeysKeys
+pub mod DealKeysLaws
+pub mod Secrets

@@ -3,6 +3,7 @@
 #![tactic(auto)]
 
 mod codes;
+mod deal_keys;
 mod frames;
 mod hellos;
 mod laws;
@@ -10,6 +11,10 @@ mod records;
 mod streams;
 
 pub use codes::{derive, hmac};
+pub use deal_keys::{
+    LinkKey, Secrets, dealing_id, items_key, link_key, links_have_one_key, purposes_are_apart,
+    secrets_of,
+};
 pub use frames::Frame;
 pub use hellos::{Hello, nonce};
 pub use laws::{

@@ -1,4 +1,3 @@
-pub mod Front
 mod Carried
 mod Cut
 mod Beginning
@@ -8,3 +7,11 @@ mod Next
 mod Refused
 mod Sent
 mod Walk
+mod Agreeing
+mod Ends
+mod Greeted
+mod Refusing
+mod Saying
+mod Happening
+mod Sealed
+mod Tried

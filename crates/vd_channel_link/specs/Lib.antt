@@ -2,3 +2,11 @@ pub mod Filling
 pub mod Opened
 pub mod Session
 pub mod Taking
+pub mod Ends
+pub mod ChannelHandshakeLaws
+pub mod Meeting
+pub mod Ledgers
+pub mod Outgoing
+pub mod Seals
+pub mod Views
+pub mod Waits

@@ -1,6 +1,8 @@
 //! Links over which only those are heard who have their key: each piece goes in a record with a code of its own.
 #![tactic(auto)]
 
+mod channel_handshake;
+mod channel_net;
 mod fault;
 mod filling;
 mod laws;
@@ -10,6 +12,8 @@ mod sealed_link;
 mod session;
 mod taking;
 
+pub use channel_handshake::{ends_have_the_same_keys, honest_ends_meet, meet};
+pub use channel_net::{Ledger, Seal, SealedNet, unsent_links_greet_alone};
 pub use fault::SealFault;
 pub use filling::fill;
 pub use laws::{opened_is_covered, opened_is_front, opened_is_sent, sent_is_carried};

@@ -10,9 +10,9 @@ use Rattle.vd_execution.specs.declared.instructions.Action.TheVariants as action
 use Rattle.vd_execution.specs.Registers.{Registers, put, put_each, written, applied, digest_of, nth}
 use Rattle.vd_execution.specs.Step.{Source, Need, Nothing, Item, Packet, Unequal, Ended, same_source, words_in}
 use Rattle.vd_execution.proofs.Front.{put_commutes}
-use Rattle.vd_reorder_laws.specs.Neighbours.{IsPlain, ListsDiffer, IsApart, AreApart}
-use Rattle.vd_reorder_laws.specs.Testing.{is_simple, reads, writes, needs, has, meet, share_list, both_may}
-use Rattle.vd_reorder_laws.proofs.Front.{words_stay, changed, changed_row, got, hashed, zeroed_row}
+use Rattle.vd_reorder.specs.Neighbours.{IsPlain, ListsDiffer, IsApart, AreApart}
+use Rattle.vd_reorder.specs.ReorderLawsTesting.{is_simple, reads, writes, needs, has, meet, share_list, both_may}
+use Rattle.vd_reorder.proofs.Front.{words_stay, changed, changed_row, got, hashed, zeroed_row}
 
 -- ---- what the tests tell
 

@@ -4,9 +4,9 @@ use Rattle.vd_execution.specs.declared.instructions.Line.{Line}
 use Rattle.vd_execution.specs.World.{Tape, Supply, followed_by_zeros}
 use Rattle.vd_execution.specs.Joint.{Joint, Hosts, IsTidy, IsSmooth, joint, fresh}
 use Rattle.vd_execution.specs.Text.{flat}
-use Rattle.vd_execution_confluence.specs.Claims.{RunsWell, RunsToItsEnd, last_of}
-use Rattle.vd_choreography_commuting.specs.Turning.{Look, look, AreAlike, TellsTheSame}
-use Rattle.vd_choreography_commuting.proofs.Front.{tidy_too, tells_the_same}
+use Rattle.vd_execution.specs.Claims.{RunsWell, RunsToItsEnd, last_of}
+use Rattle.vd_reorder.specs.Turning.{Look, look, AreAlike, TellsTheSame}
+use Rattle.vd_reorder.proofs.Front.{tidy_too, tells_the_same}
 use Rattle.vd_choreography_reorder.specs.Testing.{Opened, may_pass}
 use Rattle.vd_choreography_reorder.specs.Order.{CarefulTurns, IsCarefully, without_empty, IsBroughtForward, RunsOn}
 use Rattle.vd_choreography_reorder.specs.Passing.{arranged_lines, AreArranged}

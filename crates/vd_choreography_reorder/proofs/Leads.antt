@@ -5,7 +5,7 @@ use Rattle.vd_execution.specs.declared.instructions.Line.{Line}
 use Rattle.vd_execution.specs.declared.instructions.Line.TheVariants as line
 use Rattle.vd_execution.specs.Joint.{Part, Joint, Done, Do, Msg, If, For}
 use Rattle.vd_execution.specs.Text.{each_then, flat}
-use Rattle.vd_choreography_commuting.specs.Turning.{Turn, Does, Tells, then_goes, MayTurn, Spot, Here, Behind, InFirst, InOther, InBody, BehindBranch, BehindLoop, with_joint, IsTurned, Turns}
+use Rattle.vd_reorder.specs.Turning.{Turn, Does, Tells, then_goes, MayTurn, Spot, Here, Behind, InFirst, InOther, InBody, BehindBranch, BehindLoop, with_joint, IsTurned, Turns}
 use Rattle.vd_choreography_reorder.specs.Testing.{Opened, stays_behind, may_turn, may_pass}
 use Rattle.vd_choreography_reorder.specs.Order.{IsCarefullyTurned, CarefulTurns, IsCarefully}
 use Rattle.vd_choreography_reorder.proofs.Sound.{both, is_not, sound}

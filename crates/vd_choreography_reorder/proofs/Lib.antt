@@ -10,3 +10,12 @@ mod Tables
 mod Sinking
 mod Sorted
 mod Worked
+mod Kept
+mod Mail
+mod Same
+mod Waiting
+mod ChoreographyCoalescingSame
+mod ChoreographyCoalescingTexts
+mod Fitting
+mod Telling
+mod Stack

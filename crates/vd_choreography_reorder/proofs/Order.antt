@@ -2,8 +2,8 @@
 use Rattle.std.proofs.Common.{◌≡◌, ℕ, zero, suc, nat_eq, Bool, true, false, ◌&&◌, ◌||◌, not, if◌then◌else◌, List, refl, sym, ap, ◌∙◌, subst}
 use Rattle.std.proofs.lemmas.Bool.{eqb-true}
 use Rattle.vd_execution.specs.Joint.{Joint, Done, Do, Msg, If, For}
-use Rattle.vd_reorder_laws.specs.Testing.{is_simple, meet}
-use Rattle.vd_choreography_commuting.specs.Turning.{Turn, Does, Tells, then_goes, Spot, Here, Behind, InFirst, InOther, InBody, BehindBranch, BehindLoop, with_joint, IsTurned}
+use Rattle.vd_reorder.specs.ReorderLawsTesting.{is_simple, meet}
+use Rattle.vd_reorder.specs.Turning.{Turn, Does, Tells, then_goes, Spot, Here, Behind, InFirst, InOther, InBody, BehindBranch, BehindLoop, with_joint, IsTurned}
 use Rattle.vd_choreography_reorder.specs.Testing.{Opened, teller, tells_at, awaits_at, stays_behind}
 use Rattle.vd_choreography_reorder.specs.Order.{IsCarefullyTurned, CarefulTurns, IsCarefully, spine}
 use Rattle.vd_choreography_reorder.proofs.Sound.{both}

@@ -5,7 +5,7 @@ use Rattle.std.proofs.lemmas.Bool.{eq-eqb, eqb-true, ltb-true}
 use Rattle.vd_execution.specs.declared.instructions.Line.{Line}
 use Rattle.vd_execution.specs.Joint.{Joint, IsTidy}
 use Rattle.vd_execution.specs.Text.{flat}
-use Rattle.vd_choreography_commuting.specs.Turning.{Turn}
+use Rattle.vd_reorder.specs.Turning.{Turn}
 use Rattle.vd_choreography_reorder.specs.declared.depths.Ranked.{Ranked}
 use Rattle.vd_choreography_reorder.specs.Testing.{Opened, may_pass}
 use Rattle.vd_choreography_reorder.specs.Order.{IsBroughtForward}

@@ -3,10 +3,10 @@ use Rattle.std.proofs.Common.{◌≡◌, ◌≢◌, ℕ, nat_eq, List, Bool, tru
 use Rattle.std.proofs.lemmas.Bool.{eq-eqb, eqb-true}
 use Rattle.vd_execution.specs.declared.instructions.Reg.{Reg}
 use Rattle.vd_execution.specs.declared.instructions.Action.{Action}
-use Rattle.vd_reorder_laws.specs.Testing.{is_simple, reads, writes, needs, meet, both_may}
-use Rattle.vd_choreography_commuting.specs.Turning.{Turn, Does, Tells, MayTurn}
-use Rattle.vd_choreography_commuting.specs.Neighbours.{IsBeside, AreBeside}
-use Rattle.vd_choreography_commuting.proofs.Front.{act_beside_message, acts_apart, message_beside_act, messages_apart, acts_at_one}
+use Rattle.vd_reorder.specs.ReorderLawsTesting.{is_simple, reads, writes, needs, meet, both_may}
+use Rattle.vd_reorder.specs.Turning.{Turn, Does, Tells, MayTurn}
+use Rattle.vd_reorder.specs.ChoreographyCommutingNeighbours.{IsBeside, AreBeside}
+use Rattle.vd_reorder.proofs.Front.{act_beside_message, acts_apart, message_beside_act, messages_apart, acts_at_one}
 use Rattle.vd_choreography_reorder.specs.Testing.{is_beside, are_beside, may_turn}
 use Rattle.vd_choreography_reorder.specs.Testing as testing
 use Rattle.vd_choreography_reorder.proofs.Actions.{apart, plain, past_registers, kept_words, DoNotNeed, do_not_need}

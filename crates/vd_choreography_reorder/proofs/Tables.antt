@@ -7,7 +7,7 @@ use Rattle.vd_execution.specs.declared.instructions.Reg.{Reg}
 use Rattle.vd_execution.specs.declared.instructions.Line.{Line}
 use Rattle.vd_execution.specs.Registers.{put}
 use Rattle.vd_execution.proofs.Front.{same_or_not, put_same, put_other}
-use Rattle.vd_reorder_laws.specs.Testing.{row}
+use Rattle.vd_reorder.specs.ReorderLawsTesting.{row}
 use Rattle.vd_reorder.specs.declared.registers.Rows.{Rows}
 use Rattle.vd_reorder.specs.InRows.{in_row, in_rows}
 use Rattle.vd_choreography_reorder.specs.declared.depths.Ranked.{Ranked}

@@ -7,7 +7,7 @@ use Rattle.vd_execution.specs.declared.instructions.Line.{Line}
 use Rattle.vd_execution.specs.declared.instructions.Line.TheVariants as line
 use Rattle.vd_execution.specs.Joint.{Part, Joint, Done, Do, Msg, If, For}
 use Rattle.vd_execution.specs.Text.{each_then, flat, register}
-use Rattle.vd_choreography_commuting.specs.Turning.{Turn, Does, Tells, then_goes}
+use Rattle.vd_reorder.specs.Turning.{Turn, Does, Tells, then_goes}
 use Rattle.vd_choreography_reorder.specs.Passing.{turn_of, passes, sunk_line, arranged_lines}
 use Rattle.vd_choreography_reorder.proofs.Leads.{sunk, arranged, ends_then, elses_then}
 

@@ -6,8 +6,8 @@ use Rattle.vd_execution.specs.declared.instructions.Reg.{Reg}
 use Rattle.vd_execution.specs.declared.instructions.Line.{Line}
 use Rattle.vd_execution.specs.declared.instructions.Line.TheVariants as line
 use Rattle.vd_execution.specs.Registers.{put}
-use Rattle.vd_reorder_laws.specs.Testing.{meet, reads, writes}
-use Rattle.vd_choreography_commuting.specs.Turning.{Turn, Does, Tells}
+use Rattle.vd_reorder.specs.ReorderLawsTesting.{meet, reads, writes}
+use Rattle.vd_reorder.specs.Turning.{Turn, Does, Tells}
 use Rattle.vd_choreography_reorder.specs.declared.depths.Ranked.{Ranked}
 use Rattle.vd_choreography_reorder.specs.Testing.{Opened}
 use Rattle.vd_choreography_reorder.specs.Passing.{turn_of}

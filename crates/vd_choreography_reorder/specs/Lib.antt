@@ -4,3 +4,7 @@ pub mod Order
 pub mod Depths
 pub mod Sorting
 pub mod Examples
+pub mod Packets
+pub mod Waiting
+pub mod Joining
+pub mod Telling

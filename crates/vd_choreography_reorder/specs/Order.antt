@@ -4,8 +4,8 @@ use Rattle.vd_execution.specs.declared.instructions.Line.{Line}
 use Rattle.vd_execution.specs.Joint.{Part, Joint, Done, Do, Msg, If, For, Hosts, IsTidy, IsSmooth}
 use Rattle.vd_execution.specs.World.{Tape, Supply}
 use Rattle.vd_execution.specs.Text.{flat}
-use Rattle.vd_execution_confluence.specs.Claims.{RunsWell, RunsToItsEnd, last_of}
-use Rattle.vd_choreography_commuting.specs.Turning.{Turn, Does, Tells, then_goes, IsTurned, TellsTheSame, AreAlike}
+use Rattle.vd_execution.specs.Claims.{RunsWell, RunsToItsEnd, last_of}
+use Rattle.vd_reorder.specs.Turning.{Turn, Does, Tells, then_goes, IsTurned, TellsTheSame, AreAlike}
 use Rattle.vd_choreography_reorder.specs.Testing.{Opened, may_turn, tells_at, stays_behind}
 
 -- Two neighbours are exchanged that do not need each other, and of which the second need not stay behind the first.

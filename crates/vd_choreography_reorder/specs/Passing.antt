@@ -7,7 +7,7 @@ use Rattle.vd_execution.specs.declared.instructions.Line.TheVariants as line
 use Rattle.vd_execution.specs.Joint.{Part, Joint, Done, Do, Msg, If, For, IsTidy}
 use Rattle.vd_execution.specs.Text.{flat, each_then, register}
 use Rattle.vd_base.specs.HostSets.{host}
-use Rattle.vd_choreography_commuting.specs.Turning.{Turn, Does, Tells, then_goes}
+use Rattle.vd_reorder.specs.Turning.{Turn, Does, Tells, then_goes}
 use Rattle.vd_choreography_reorder.specs.Testing.{Opened, may_pass}
 use Rattle.vd_choreography_reorder.specs.Order.{IsBroughtForward}
 

@@ -3,8 +3,8 @@
 use Rattle.std.specs.Prelude.{◌≡◌, ℕ, nat_eq, Bool, true, false, ◌&&◌, ◌||◌, not, if◌then◌else◌, List, slice_index_or, []}
 use Rattle.vd_execution.specs.declared.instructions.Reg.{Reg}
 use Rattle.vd_execution.specs.declared.instructions.Action.{Action}
-use Rattle.vd_reorder_laws.specs.Testing.{is_simple, reads, writes, meet, both_may}
-use Rattle.vd_choreography_commuting.specs.Turning.{Turn, Does, Tells, MayTurn}
+use Rattle.vd_reorder.specs.ReorderLawsTesting.{is_simple, reads, writes, meet, both_may}
+use Rattle.vd_reorder.specs.Turning.{Turn, Does, Tells, MayTurn}
 
 -- two acts of one host that print and compare nothing and do not need each other
 abbrev pub acts_apart : Action → Action → Bool

@@ -5,7 +5,7 @@
 ghost use Rattle.std.specs.Prelude.{◌≡◌, ◌+◌, ◌<◌, IfOk, OnOk, length, slice_index};
 ghost use Rattle.vd_execution.specs.Registers.{put};
 ghost use Rattle.vd_reorder.specs.InRows.{in_row, in_rows};
-ghost use Rattle.vd_reorder_laws.specs.Testing.{reads};
+ghost use Rattle.vd_reorder.specs.ReorderLawsTesting.{reads};
 ghost use Rattle.vd_choreography_reorder.specs.Depths as order;
 ghost use Rattle.vd_choreography_reorder.specs.Depths.{behind_line, deepest, depths_behind, line_rank, none_waits, noted, told};
 ghost use Rattle.vd_choreography_reorder.specs.Passing.{turn_of};
@@ -13,8 +13,7 @@ ghost use Rattle.vd_choreography_reorder.specs.Testing.{opened_at};
 
 use crate::testing::is_open;
 use std::alloc::{AllocError, Global};
-use vd_base::HostId;
-use vd_base_lists::Items;
+use vd_base::{HostId, Items};
 use vd_execution::{Act, Action, Line, Reg};
 use vd_reorder::{Row, Rows, read_by, written_by};
 

@@ -3,10 +3,14 @@
 //! neighbours may be exchanged. What a host compares, prints and opens keeps its order.
 #![tactic(auto)]
 
+mod choreography_coalescing;
+mod choreography_packets;
 mod depths;
 mod laws;
 mod passing;
 mod testing;
 
+pub use choreography_coalescing::{join_packets, joined_code_tells_the_same};
+pub use choreography_packets::{nothing_is_told_earlier, packets_are_kept};
 pub use laws::{order_is_kept, order_is_sorted, passes_bring_forward, test_is_sound, worked_lines};
 pub use passing::bring_forward;

@@ -11,7 +11,7 @@ ghost use Rattle.vd_choreography_reorder.specs.Testing.{opened_at};
 use crate::depths::{Ranked, lines_of, rank_lines};
 use crate::testing::passes_line;
 use std::alloc::{AllocError, Global};
-use vd_base_lists::Items;
+use vd_base::Items;
 use vd_execution::{Line, Reg};
 
 /// Whether a line goes behind its neighbour: where that ranks lower and may pass.

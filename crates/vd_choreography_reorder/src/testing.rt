@@ -1,14 +1,13 @@
 //! Which of two neighbours in joint code may stand before the other.
 
 ghost use Rattle.std.specs.Prelude.{◌≡◌};
-ghost use Rattle.vd_reorder_laws.specs.Testing.{meet};
-ghost use Rattle.vd_choreography_commuting.specs.Turning.{Does, Tells};
+ghost use Rattle.vd_reorder.specs.ReorderLawsTesting.{meet};
+ghost use Rattle.vd_reorder.specs.Turning.{Does, Tells};
 ghost use Rattle.vd_choreography_reorder.specs.Passing.{act_passes, passes, turn_of};
 ghost use Rattle.vd_choreography_reorder.specs.Testing as testing;
 ghost use Rattle.vd_choreography_reorder.specs.Testing.{opened_at};
 
-use vd_base::HostId;
-use vd_base_lists::Items;
+use vd_base::{HostId, Items};
 use vd_execution::{Act, Action, Line, Reg};
 use vd_reorder::{any_among, both_may, have_common, is_simple, read_by, written_by};
 

@@ -1,6 +1,6 @@
 -- A list of gates that is made of seven pieces.
 use Rattle.std.proofs.Common.{◌≡◌, List, ◌++◌, ap, ◌∙◌}
-use Rattle.vd_backend_algebra.specs.Gates.{Gate}
+use Rattle.vd_backend_sharing.specs.Gates.{Gate}
 use Rattle.vd_bits.specs.declared.gates.Gate.{Gate as Written}
 use Rattle.vd_bits.specs.BitCalls.{gates_in}
 use Rattle.vd_bits.proofs.Front.{gates_append, on, more}

@@ -2,7 +2,7 @@
 use Rattle.std.proofs.Common.{◌≡◌, ℕ, ◌≤◌, IsTrue, List, [], ◌∷◌, ◌++◌, length, refl}
 use Rattle.vd_base.specs.declared.operations.Op.{Op}
 use Rattle.vd_base.specs.declared.operations.Op.TheVariants as op
-use Rattle.vd_backend_algebra.specs.Gates.{Gate, Flip, adding, subtracting, comparing, equating, choosing, gates_of}
+use Rattle.vd_backend_sharing.specs.Gates.{Gate, Flip, adding, subtracting, comparing, equating, choosing, gates_of}
 use Rattle.vd_bits.specs.declared.gates.Gate.{Gate as Written}
 use Rattle.vd_bits.specs.BitCalls.{gates_in}
 use Rattle.vd_bits.proofs.Front.{circuit_short}

@@ -2,13 +2,12 @@
 
 ghost use Rattle.std.specs.Prelude.{◌≡◌, ◌<◌, ◌≤◌, ◌++◌, IfOk, OnOk, IsTrue, length};
 ghost use Rattle.vd_base.specs.declared.operations.Op.TheVariants as op;
-ghost use Rattle.vd_backend_algebra.specs.Gates.{comparing as comparing_of, narrowing as narrowing_of, equating as equating_of, choosing as choosing_of, gates_of};
+ghost use Rattle.vd_backend_sharing.specs.Gates.{comparing as comparing_of, narrowing as narrowing_of, equating as equating_of, choosing as choosing_of, gates_of};
 ghost use Rattle.vd_bits.specs.BitCalls.{gates_in};
 ghost use Rattle.vd_circuit.specs.CircuitCalls.{circuit_serves};
 
 use std::alloc::{AllocError, Global};
-use vd_base::Op;
-use vd_base_lists::Items;
+use vd_base::{Items, Op};
 use vd_bits::{Gate, adding, bit_gates, carrying, subtracting};
 
 /// Whether one word is below the other: 1 or 0 stands at `n + 26`.

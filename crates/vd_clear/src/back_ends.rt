@@ -11,8 +11,7 @@ use crate::each::each_host;
 use crate::show::show;
 use crate::steps::{Adopt, Keep, Literal, Share, Show};
 use std::alloc::{AllocError, Global};
-use vd_base::{HostId, HostSet, Op, Proto};
-use vd_base_lists::Items;
+use vd_base::{HostId, HostSet, Items, Op, Proto};
 use vd_duet::{Args, Backend, Clear, Duet, Parts, register_at};
 use vd_execution::{Act, Action, Reg};
 

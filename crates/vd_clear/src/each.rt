@@ -7,8 +7,7 @@ ghost use Rattle.vd_duet.specs.Laws.{AreKnown};
 ghost use Rattle.vd_clear.specs.Copies.{each_made};
 
 use std::alloc::AllocError;
-use vd_base::HostId;
-use vd_base_lists::Items;
+use vd_base::{HostId, Items};
 use vd_duet::{Clear, Duet, Parts};
 use vd_execution::Reg;
 

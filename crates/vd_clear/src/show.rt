@@ -5,8 +5,7 @@ ghost use Rattle.vd_base.specs.Holders.{is_among};
 ghost use Rattle.vd_clear.specs.Copies.{told, compared, first_register, shown};
 
 use std::alloc::AllocError;
-use vd_base::HostId;
-use vd_base_lists::Items;
+use vd_base::{HostId, Items};
 use vd_duet::{Clear, Duet, Parts, register_at};
 use vd_execution::{Act, Action, Reg};
 

@@ -6,8 +6,7 @@ ghost use Rattle.vd_clear.specs.Copies.{literal_at, passed, adopted, kept_by, sh
 use crate::each::Step;
 use crate::show::show;
 use std::alloc::AllocError;
-use vd_base::HostId;
-use vd_base_lists::Items;
+use vd_base::{HostId, Items};
 use vd_duet::{Clear, Duet, Parts, register_at};
 use vd_execution::{Act, Action, Reg};
 

@@ -7,7 +7,7 @@ use std::alloc::AllocError;
 use std::error::Error;
 use std::fmt;
 use vd_base::{Text, Texts};
-use vd_deal_items::Counts;
+use vd_tape::Counts;
 
 /// The words of `replay SOURCE INPUTS PREFIX SCHEDULE [messages] [BUDGET]`.
 #[derive(Drop)]

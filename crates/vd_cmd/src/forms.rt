@@ -12,7 +12,7 @@ use crate::command::{
 };
 use std::alloc::{AllocError, Global};
 use vd_base::Text;
-use vd_deal_items::Counts;
+use vd_tape::Counts;
 
 /// The command `deal` with these counts and this key, if they are given.
 pub(crate) fn deal_of(

@@ -14,8 +14,8 @@ use crate::numbers::number_within;
 use std::alloc::{AllocError, Global};
 use vd_base::limits::{DEAL_ITEMS, HOSTS, SEARCH_BUDGET};
 use vd_base::{Text, Texts};
-use vd_deal_items::Counts;
 use vd_gen::COORDINATES;
+use vd_tape::Counts;
 
 /// The least first port of a run.
 const FIRST_PORT: u32 = 1024;

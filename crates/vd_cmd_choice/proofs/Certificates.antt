@@ -1,5 +1,5 @@
 -- The outcomes of certificate files.
-use Rattle.vd_search_certificate.proofs.Front.{one_outcome}
+use Rattle.vd_search_tree.proofs.Front.{one_outcome}
 use Rattle.vd_cmd_choice.specs.Outcomes.{CertificateOutcomes}
 
 -- there is a function that gives each file its one outcome

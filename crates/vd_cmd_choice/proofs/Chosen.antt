@@ -7,15 +7,15 @@ use Rattle.vd_constraints.specs.Rules.{system_of}
 use Rattle.vd_constraints.specs.Satisfies.{IsLeast}
 use Rattle.vd_constraints.specs.declared.labels.Labels.{Labels}
 use Rattle.vd_bound.specs.Marks.{count_of, is_expanded}
-use Rattle.vd_search_certificate.specs.declared.certificate.Certificate.{Certificate}
-use Rattle.vd_search_certificate.specs.Texts.{text_of}
-use Rattle.vd_search_certificate.proofs.Front.{outcome_once}
+use Rattle.vd_search_tree.specs.declared.search_certificate.certificate.Certificate.{Certificate}
+use Rattle.vd_search_tree.specs.Texts.{text_of}
+use Rattle.vd_search_tree.proofs.Front.{outcome_once}
 use Rattle.vd_space.specs.declared.problem.Problem.{Problem}
 use Rattle.vd_space.specs.Costs.{cost}
 use Rattle.vd_space.specs.Reading.{problem_of}
 use Rattle.vd_space.specs.Spaces.{IsProblem}
 use Rattle.vd_space.specs.Usual.{usual}
-use Rattle.vd_space_optimum.proofs.Front.{cheapest}
+use Rattle.vd_space.proofs.Front.{cheapest}
 use Rattle.vd_search_stages.specs.Choices.{ChoiceOutcomes, IsChosen, needed}
 use Rattle.vd_search_stages.specs.Confirming.{confirmed}
 use Rattle.vd_search_stages.specs.SoFar.{has_own_form}

@@ -7,9 +7,9 @@ use Rattle.vd_report.specs.ChoiceLines.{choice_lines}
 use Rattle.vd_constraints.specs.Rules.{system_of}
 use Rattle.vd_constraints.specs.Satisfies.{IsLeast}
 use Rattle.vd_constraints.specs.declared.labels.Labels.{Labels}
-use Rattle.vd_search_certificate.specs.Texts.{text_of}
+use Rattle.vd_search_tree.specs.Texts.{text_of}
 use Rattle.vd_space.specs.Reading.{problem_of}
-use Rattle.vd_space_optimum.specs.Cheapest.{IsAssignment}
+use Rattle.vd_space.specs.Cheapest.{IsAssignment}
 use Rattle.vd_search_stages.specs.Choices.{ChoiceOutcomes}
 use Rattle.vd_search_stages.specs.Optimum.{IsOptimal, assignment_of}
 use Rattle.vd_search_stages.specs.declared.optimum.Assignment.{Assignment}

@@ -1,6 +1,6 @@
 -- What a search for protocols may answer.
 use Rattle.std.specs.Prelude.{ℕ, ◌&&◌, nat_le, nat_lt, Bool, false, if◌then◌else◌, is_ok, List, [], Result, Ok, Err}
-use Rattle.vd_search_certificate.specs.declared.certificate.Certificate.{Certificate}
+use Rattle.vd_search_tree.specs.declared.search_certificate.certificate.Certificate.{Certificate}
 use Rattle.vd_bound.specs.Marks.{count_of, is_expanded}
 use Rattle.vd_space.specs.declared.problem.Problem.{Problem}
 use Rattle.vd_search_stages.specs.Choices.{ChoiceOutcomes, needed}

@@ -8,16 +8,15 @@ ghost use Rattle.vd_cmd_plan.specs.Labelled.{labelled_form};
 ghost use Rattle.vd_cmd_choice.specs.Choice.{Chooses, IsChoiceFor, Searches, no_list, printed_at};
 
 use std::alloc::{AllocError, Global};
-use vd_base::Bytes;
-use vd_base_lists::Items;
+use vd_base::{Bytes, Items};
 use vd_cmd_labels::least_labels;
 use vd_cmd_plan::{Answer, Labelled, Status};
 use vd_constraints::Labels;
 use vd_core::Program;
 use vd_report::choice_text;
 use vd_search::SearchFault;
-use vd_search_certificate::Certificate;
 use vd_search_stages::{Assignment, Sweeps, select};
+use vd_search_tree::Certificate;
 use vd_space_api::Space;
 
 /// What the search for protocols came to.

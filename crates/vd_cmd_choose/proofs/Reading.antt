@@ -3,11 +3,11 @@ use Rattle.std.proofs.Common.{◌≡◌, ℕ, ◌+◌, ◌<◌, ◌≤◌, List,
 use Rattle.std.proofs.lemmas.List.{length-map}
 use Rattle.vd_base.specs.Limits.{most_certificate_bytes}
 use Rattle.vd_outside.specs.Files.{FilesView}
-use Rattle.vd_search_certificate.specs.declared.certificate.Certificate.{Certificate}
+use Rattle.vd_search_tree.specs.declared.search_certificate.certificate.Certificate.{Certificate}
 use Rattle.vd_base.specs.declared.faults.FileFault.{FileFault}
 use Rattle.vd_base.specs.declared.faults.FileFault.TheVariants as file_fault
-use Rattle.vd_search_certificate.specs.Outcomes.{Answers, HasOneOutcome}
-use Rattle.vd_search_certificate.specs.Texts.{IsTextOf, claim_text, letter, marks_text}
+use Rattle.vd_search_tree.specs.Outcomes.{Answers, HasOneOutcome}
+use Rattle.vd_search_tree.specs.Texts.{IsTextOf, claim_text, letter, marks_text}
 use Rattle.vd_cmd_plan.specs.declared.status.Status.{Status}
 use Rattle.vd_cmd_plan.specs.Plans.{Checks, ExecutesStep, file_then, check_then}
 use Rattle.vd_cmd_plan.specs.Loads.{Loads}

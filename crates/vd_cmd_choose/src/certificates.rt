@@ -11,7 +11,7 @@ use vd_base::FileFault;
 use vd_base::limits::CERTIFICATE_BYTES;
 use vd_cmd_plan::{Status, load};
 use vd_outside::Files;
-use vd_search_certificate::Certificate;
+use vd_search_tree::Certificate;
 
 /// The certificate whose text the bytes are, or why there is none.
 fn read_certificate(alloc: Global, bytes: &[u8]) -> Result<Certificate, Status>

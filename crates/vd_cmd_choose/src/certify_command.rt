@@ -1,7 +1,7 @@
 //! The command `certify`.
 
 ghost use Rattle.std.specs.Prelude.{◌≡◌, ◌<◌, ◌++◌, true, [], codes, length, IfOk};
-ghost use Rattle.vd_cost_network.specs.Arcs.{arcs};
+ghost use Rattle.vd_space.specs.Arcs.{arcs};
 ghost use Rattle.vd_outside.specs.Files.{FilesView};
 ghost use Rattle.vd_cmd_plan.specs.Plans.{Checks, Computes, Executes, ended};
 ghost use Rattle.vd_cmd_choose.specs.Certifying.{ExecutesCertified, ExecutesCertify, IsFromFile, confirmed_plan, proved_of, proved_text};
@@ -10,15 +10,14 @@ use crate::certificates::load_certificate;
 use crate::spaces::least_space;
 use itoa::Buffer;
 use std::alloc::{AllocError, Global};
-use vd_base::Bytes;
-use vd_base_lists::Items;
+use vd_base::{Bytes, Items};
 use vd_bound::Proved;
 use vd_cmd_choice::load_program;
 use vd_cmd_plan::{Answer, Status, check_status};
 use vd_core::Program;
 use vd_outside::Files;
-use vd_search_certificate::Certificate;
 use vd_search_stages::confirm;
+use vd_search_tree::Certificate;
 use vd_space_api::Space;
 
 /// What a certificate shows of a space, or why it is not accepted.

@@ -2,7 +2,7 @@
 
 ghost use Rattle.std.specs.Prelude.{◌≡◌, ◌≤◌, [], ◌∷◌, IfOk};
 ghost use Rattle.vd_base.specs.Limits.{most_search_budget};
-ghost use Rattle.vd_search_certificate.specs.Texts.{text_of};
+ghost use Rattle.vd_search_tree.specs.Texts.{text_of};
 ghost use Rattle.vd_constraints.specs.Rules.{system_of};
 ghost use Rattle.vd_constraints.specs.Satisfies.{IsLeast};
 ghost use Rattle.vd_cmd_plan.specs.Plans.{Computes};
@@ -10,12 +10,11 @@ ghost use Rattle.vd_cmd_choice.specs.Choice.{chosen_of};
 ghost use Rattle.vd_cmd_choose.specs.Choosing.{ExecutesChoose, certificate_file, chosen_answer};
 
 use std::alloc::{AllocError, Global};
-use vd_base::{Bytes, Text};
-use vd_base_lists::Items;
+use vd_base::{Bytes, Items, Text};
 use vd_cmd_choice::{Choice, assignment_text, choice_of, load_source_program};
 use vd_cmd_plan::{Answer, Labelled, Status};
 use vd_outside::{Files, Stored};
-use vd_search_certificate::Certificate;
+use vd_search_tree::Certificate;
 
 /// The file in which a certificate is stored.
 fn certificate_files(

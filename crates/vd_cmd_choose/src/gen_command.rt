@@ -5,7 +5,7 @@ ghost use Rattle.vd_cmd_plan.specs.Plans.{Computes};
 ghost use Rattle.vd_cmd_choose.specs.Generating.{gen_answer};
 
 use std::alloc::Global;
-use vd_base_lists::Items;
+use vd_base::Items;
 use vd_cmd_plan::{Answer, Status};
 use vd_gen::generate;
 

@@ -3,7 +3,7 @@
 ghost use Rattle.std.specs.Prelude.{◌<◌, IfOk, length};
 ghost use Rattle.vd_constraints.specs.declared.labels.Labels.{Labels as Labellings};
 ghost use Rattle.vd_cmd_labels.specs.Outcomes.{LabelOutcomes};
-ghost use Rattle.vd_cost_network.specs.Arcs.{arcs};
+ghost use Rattle.vd_space.specs.Arcs.{arcs};
 ghost use Rattle.vd_cmd_plan.specs.Plans.{Checks};
 ghost use Rattle.vd_cmd_choose.specs.Problems.{IsProblemOf, problem_for};
 ghost use Rattle.vd_space.specs.Labelled.{HasLabels};

@@ -12,18 +12,18 @@ use Rattle.vd_core.specs.declared.normal.NormalForm.{NormalForm}
 use Rattle.vd_core.specs.Facts.{IsWellMade}
 use Rattle.vd_formula.specs.declared.label.Label.{Label}
 use Rattle.vd_protocol.specs.Authority.{authority_of}
-use Rattle.vd_noninter_laws.proofs.Front.{acts_for}
+use Rattle.vd_noninter.proofs.Front.{acts_for}
 use Rattle.vd_space.specs.declared.problem.Problem.{Problem}
 use Rattle.vd_space.specs.Reading.{problem_of}
 use Rattle.vd_formula.specs.TruthTable.{acts}
 use Rattle.vd_space.specs.Validity.{covers, protocol, protocols}
 use Rattle.vd_space.proofs.Front.{as_many, parts_of}
-use Rattle.vd_space_optimum.proofs.Front.{proto_is}
-use Rattle.vd_noninter_assigned.proofs.Front.{label_of_slot, stand_at}
+use Rattle.vd_space.proofs.Front.{proto_is}
+use Rattle.vd_noninter_protocols.proofs.Front.{label_of_slot, stand_at}
 use Rattle.vd_execution.specs.declared.instructions.Instr.{Instr}
 use Rattle.vd_execution.specs.Joint.{code_of}
 use Rattle.vd_execution.specs.Text.{text}
-use Rattle.vd_host_text.specs.declared.program.Digest.{Digest}
+use Rattle.vd_hostcode.specs.declared.host_text.program.Digest.{Digest}
 use Rattle.vd_projection.specs.Programs.{host_codes, joint_of}
 use Rattle.vd_search_stages.specs.declared.optimum.Assignment.{Assignment}
 use Rattle.vd_cmd_compile.specs.Compiling.{IsStoredFor, host_file, host_files, plan_for}

@@ -13,7 +13,7 @@ use Rattle.vd_projection.specs.Programs.{CanRunAt, IsRunnable, host_codes, joint
 use Rattle.vd_search_stages.specs.declared.optimum.Assignment.{Assignment}
 use Rattle.vd_cmd_choice.specs.Choice.{IsSelected}
 use Rattle.vd_space.specs.Reading.{problem_of}
-use Rattle.vd_space_optimum.specs.Cheapest.{IsAssignment}
+use Rattle.vd_space.specs.Cheapest.{IsAssignment}
 
 -- the choice is valid under the labels that it is chosen under
 pub assignment_of : (program : NormalForm) (a : Assignment) → (is : IsSelected program a) → IsAssignment (problem_of program is.labels) a.protocols

@@ -5,8 +5,8 @@ use Rattle.std.specs.List.{remove}
 use Rattle.vd_base.specs.HostSets.{host}
 use Rattle.vd_outside.specs.declared.stored.Stored.{Stored}
 use Rattle.vd_execution.specs.declared.instructions.Instr.{Instr}
-use Rattle.vd_host_text.specs.declared.program.Digest.{Digest}
-use Rattle.vd_host_text.specs.Text.{program_text}
+use Rattle.vd_hostcode.specs.declared.host_text.program.Digest.{Digest}
+use Rattle.vd_hostcode.specs.Text.{program_text}
 use Rattle.vd_cmd_plan.specs.Numbered.{file_name}
 use Rattle.vd_cmd_compile.specs.Compiling.{host_file, host_files}
 

@@ -7,9 +7,9 @@ use Rattle.vd_core.specs.declared.normal.NormalForm.{NormalForm}
 use Rattle.vd_core.specs.Facts.{IsWellMade}
 use Rattle.vd_execution.specs.declared.instructions.Instr.{Instr}
 use Rattle.vd_core.specs.Numbers.{NumbersFit}
-use Rattle.vd_host_text.specs.declared.program.Digest.{Digest}
+use Rattle.vd_hostcode.specs.declared.host_text.program.Digest.{Digest}
 use Rattle.vd_projection.specs.Programs.{host_codes}
-use Rattle.vd_projection_files.proofs.Front.{is_digest}
+use Rattle.vd_projection.proofs.Front.{is_digest}
 use Rattle.vd_search_stages.specs.declared.optimum.Assignment.{Assignment}
 use Rattle.vd_cmd_plan.specs.Labelled.{LabelledForm}
 use Rattle.vd_cmd_plan.specs.declared.answer.Answer.{Answer}

@@ -6,8 +6,8 @@ use Rattle.vd_outside.specs.Files.{FilesView, Contents}
 use Rattle.vd_outside.specs.declared.stored.Stored.{Stored}
 use Rattle.vd_core.specs.declared.normal.NormalForm.{NormalForm}
 use Rattle.vd_execution.specs.declared.instructions.Instr.{Instr}
-use Rattle.vd_host_text.specs.declared.program.Digest.{Digest}
-use Rattle.vd_host_text.specs.Text.{program_text}
+use Rattle.vd_hostcode.specs.declared.host_text.program.Digest.{Digest}
+use Rattle.vd_hostcode.specs.Text.{program_text}
 use Rattle.vd_projection.specs.Programs.{host_codes}
 use Rattle.vd_search_stages.specs.Choices.{ChoiceOutcomes}
 use Rattle.vd_search_stages.specs.declared.optimum.Assignment.{Assignment}

@@ -7,7 +7,7 @@ use Rattle.vd_core.specs.declared.source.Source.{Source}
 use Rattle.vd_search_stages.specs.declared.optimum.Assignment.{Assignment}
 use Rattle.vd_cmd_rewrite.specs.RunPrograms.{IsRunProgram, TellsAs}
 use Rattle.vd_projection.specs.Programs.{host_codes}
-use Rattle.vd_projection_files.specs.Stored.{CanBeStored}
+use Rattle.vd_projection.specs.Stored.{CanBeStored}
 use Rattle.vd_cmd_plan.specs.Held.{Finds, IsHeld}
 use Rattle.vd_cmd_plan.specs.declared.answer.Answer.{Answer}
 use Rattle.vd_cmd_plan.specs.declared.status.Status.{Status}

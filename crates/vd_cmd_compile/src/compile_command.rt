@@ -8,13 +8,12 @@ ghost use Rattle.vd_cmd_compile.specs.Compiling.{ExecutesCompile, compiled_at, c
 ghost use Rattle.vd_cmd_compile.specs.Telling.{TellsPrograms, TellsSource, TellsText};
 
 use std::alloc::{AllocError, Global};
-use vd_base::{HostId, Names};
-use vd_base_lists::Items;
+use vd_base::{HostId, Items, Names};
 use vd_cmd_choice::{ChosenSource, assignment_text, choice_of, load_source_program, no_assignment};
 use vd_cmd_plan::{Answer, Status, file_name};
 use vd_core::Program;
 use vd_execution::Instr;
-use vd_host_text::{Digest, host_file, plan_of};
+use vd_hostcode::{Digest, host_file, plan_of};
 use vd_outside::{Files, Stored};
 use vd_projection::split;
 use vd_search_stages::Assignment;

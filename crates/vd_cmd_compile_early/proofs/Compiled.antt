@@ -6,7 +6,7 @@ use Rattle.vd_base.specs.Limits.{most_hosts}
 use Rattle.vd_outside.specs.declared.stored.Stored.{Stored}
 use Rattle.vd_core.specs.declared.normal.NormalForm.{NormalForm}
 use Rattle.vd_execution.specs.declared.instructions.Instr.{Instr}
-use Rattle.vd_host_text.specs.declared.program.Digest.{Digest}
+use Rattle.vd_hostcode.specs.declared.host_text.program.Digest.{Digest}
 use Rattle.vd_execution.specs.Joint.{Joint, code_of}
 use Rattle.vd_execution.specs.Text.{text}
 use Rattle.vd_core.specs.Facts.{IsWellMade}
@@ -17,7 +17,7 @@ use Rattle.vd_cmd_plan.specs.declared.answer.Answer.{Answer}
 use Rattle.vd_cmd_plan.specs.declared.status.Status.TheVariants.{Ended}
 use Rattle.vd_cmd_choice.specs.Choice.{printed_at}
 use Rattle.vd_cmd_compile.specs.Compiling.{host_files}
-use Rattle.vd_projection_reordered.specs.Early.{AreEarlyCodes, each_code}
+use Rattle.vd_projection.specs.Early.{AreEarlyCodes, each_code}
 use Rattle.vd_cmd_compile_early.specs.Compiling.{early_at, early_plan_for}
 
 abbrev made : List Stored → List ℕ → Answer

@@ -11,7 +11,7 @@ use Rattle.vd_cmd_plan.specs.Plans.{Executes, IsGiven, IsProper, Plan}
 use Rattle.vd_cmd_plan.specs.Runs.{Finishes}
 use Rattle.vd_cmd_plan.specs.declared.answer.Answer.{Answer}
 use Rattle.vd_cmd_plan.specs.declared.status.Status.{Status}
-use Rattle.vd_cmd_choice_laws.proofs.Front.{ended, never, printed, stand}
+use Rattle.vd_cmd_laws.proofs.Front.{ended, never, printed, stand}
 use Rattle.vd_cmd_compile_early.specs.Compiling.{ExecutesEarly, early_plan}
 use Rattle.vd_cmd_compile_early.specs.Telling.{TellsSource}
 use Rattle.vd_cmd_compile_early.specs.Running.{KeepsOrder, RunsEarly}

@@ -7,8 +7,8 @@ use Rattle.vd_core.specs.declared.normal.NormalForm.{NormalForm}
 use Rattle.vd_core.specs.Facts.{IsWellMade}
 use Rattle.vd_execution.specs.declared.instructions.Instr.{Instr}
 use Rattle.vd_core.specs.Numbers.{NumbersFit}
-use Rattle.vd_host_text.specs.declared.program.Digest.{Digest}
-use Rattle.vd_projection_files.proofs.Front.{is_digest}
+use Rattle.vd_hostcode.specs.declared.host_text.program.Digest.{Digest}
+use Rattle.vd_projection.proofs.Front.{is_digest}
 use Rattle.vd_search_stages.specs.declared.optimum.Assignment.{Assignment}
 use Rattle.vd_cmd_plan.specs.Labelled.{LabelledForm}
 use Rattle.vd_cmd_plan.specs.declared.answer.Answer.{Answer}
@@ -17,7 +17,7 @@ use Rattle.vd_cmd_plan.specs.declared.status.Status.TheVariants.{Ended}
 use Rattle.vd_cmd_choice.specs.Choice.{IsSelected, no_list}
 use Rattle.vd_cmd_choice.specs.Programs.{HasText, IsProgramOf}
 use Rattle.vd_cmd_compile.specs.Compiling.{host_files}
-use Rattle.vd_projection_reordered.specs.Early.{AreEarlyCodes}
+use Rattle.vd_projection.specs.Early.{AreEarlyCodes}
 use Rattle.vd_cmd_compile_early.specs.Compiling.{early_plan_for}
 use Rattle.vd_cmd_compile_early.specs.Telling.{TellsPrograms, TellsSource, TellsText}
 use Rattle.vd_cmd_compile.proofs.Front.{runnable_of}

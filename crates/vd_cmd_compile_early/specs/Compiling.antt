@@ -3,7 +3,7 @@ use Rattle.std.specs.Prelude.{ℕ, true, List, ◌++◌, length, Result, codes}
 use Rattle.vd_outside.specs.Files.{FilesView, Contents}
 use Rattle.vd_core.specs.declared.normal.NormalForm.{NormalForm}
 use Rattle.vd_execution.specs.Joint.{Joint}
-use Rattle.vd_host_text.specs.declared.program.Digest.{Digest}
+use Rattle.vd_hostcode.specs.declared.host_text.program.Digest.{Digest}
 use Rattle.vd_search_stages.specs.Choices.{ChoiceOutcomes}
 use Rattle.vd_search_stages.specs.declared.optimum.Assignment.{Assignment}
 use Rattle.vd_cmd_plan.specs.Labelled.{labelled_form}
@@ -14,7 +14,7 @@ use Rattle.vd_cmd_labels.specs.Outcomes.{TextOutcomes, LabelOutcomes}
 use Rattle.vd_cmd_choice.specs.Searching.{Search, SomeSearch}
 use Rattle.vd_cmd_choice.specs.Choice.{Chosen, assigned_answer, printed_at, source_choice_then}
 use Rattle.vd_cmd_compile.specs.Compiling.{host_files, plan_for}
-use Rattle.vd_projection_reordered.specs.Early.{each_code}
+use Rattle.vd_projection.specs.Early.{each_code}
 
 -- ---- what it comes to
 

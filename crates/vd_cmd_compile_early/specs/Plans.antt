@@ -2,7 +2,7 @@
 use Rattle.std.specs.Prelude.{◌≡◌, ◌≢◌, ◌<◌, ◌^◌, ℕ, List}
 use Rattle.sha2.specs.Sha256.{sha256}
 use Rattle.vd_core.specs.declared.normal.NormalForm.{NormalForm}
-use Rattle.vd_host_text.specs.declared.program.Digest.{Digest}
+use Rattle.vd_hostcode.specs.declared.host_text.program.Digest.{Digest}
 use Rattle.vd_search_stages.specs.declared.optimum.Assignment.{Assignment}
 use Rattle.vd_cmd_choice.specs.Choice.{printed_at}
 use Rattle.vd_cmd_compile.specs.Compiling.{plan_for}

@@ -8,7 +8,7 @@ use Rattle.vd_search_stages.specs.declared.optimum.Assignment.{Assignment}
 use Rattle.vd_cmd_rewrite.specs.RunPrograms.{IsRunProgram, TellsAs}
 use Rattle.vd_execution.specs.Joint.{Joint}
 use Rattle.vd_projection.specs.Programs.{joint_of}
-use Rattle.vd_projection_files.specs.Stored.{CanBeStored}
+use Rattle.vd_projection.specs.Stored.{CanBeStored}
 use Rattle.vd_cmd_plan.specs.Held.{Finds, IsHeld}
 use Rattle.vd_cmd_plan.specs.declared.answer.Answer.{Answer}
 use Rattle.vd_cmd_plan.specs.declared.status.Status.{Status}
@@ -16,7 +16,7 @@ use Rattle.vd_cmd_plan.specs.declared.status.Status.TheVariants.{Ended}
 use Rattle.vd_cmd_labels.specs.Sources.{IsSourceText}
 use Rattle.vd_cmd_choice.specs.Choice.{IsSelected}
 use Rattle.vd_cmd_compile.specs.Compiling.{host_files}
-use Rattle.vd_projection_reordered.specs.Early.{IsEarly, each_code}
+use Rattle.vd_projection.specs.Early.{IsEarly, each_code}
 use Rattle.vd_cmd_compile_early.specs.Compiling.{early_plan_for}
 
 -- The answer stores a file for each host, of its part of what all hosts do together: the joint code at the choice of protocols, in an order

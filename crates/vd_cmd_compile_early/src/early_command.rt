@@ -16,9 +16,9 @@ use vd_cmd_choice::{ChosenSource, assignment_text, choice_of, load_source_progra
 use vd_cmd_compile::files_of;
 use vd_cmd_plan::{Answer, Status, finish};
 use vd_core::Program;
-use vd_host_text::plan_of;
+use vd_hostcode::plan_of;
 use vd_outside::{Files, Sink};
-use vd_projection_reordered::split_early;
+use vd_projection::split_early;
 use vd_search_stages::Assignment;
 
 /// What is printed, with the word for this order behind it.

@@ -1,1 +1,5 @@
+pub mod Front
 mod OneMore
+mod Digests
+mod CmdDealKeyedOneMore
+mod ReadBack

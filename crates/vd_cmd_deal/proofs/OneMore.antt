@@ -3,7 +3,7 @@ use Rattle.std.proofs.Common.{◌≡◌, ℕ, ◌+◌, ◌<◌, List, [], ◌∷
 use Rattle.std.proofs.lemmas.List.{map-append, length-map, length-take-le}
 use Rattle.std.proofs.lemmas.Grind.{take_at_read}
 use Rattle.vd_outside.specs.declared.stored.Stored.{Stored}
-use Rattle.vd_deal_items.specs.declared.deal.Deal.{Deal}
+use Rattle.vd_tape.specs.declared.deal_items.deal.Deal.{Deal}
 use Rattle.vd_tape.specs.Text.{deal_text}
 use Rattle.vd_cmd_plan.specs.Numbered.{file_name, numbered}
 use Rattle.vd_cmd_plan.proofs.Front.{numbered_more}

@@ -2,8 +2,8 @@
 use Rattle.std.specs.Prelude.{ℕ, List, [], map, codes}
 use Rattle.vd_outside.specs.Files.{Contents}
 use Rattle.vd_outside.specs.declared.stored.Stored.{Stored}
-use Rattle.vd_deal_items.specs.declared.deal.Deal.{Deal}
-use Rattle.vd_deal_items.specs.declared.deal.Counts.{Counts}
+use Rattle.vd_tape.specs.declared.deal_items.deal.Deal.{Deal}
+use Rattle.vd_tape.specs.declared.deal_items.deal.Counts.{Counts}
 use Rattle.vd_tape.specs.Text.{deal_text}
 use Rattle.vd_tape.specs.Made.{made_deals}
 use Rattle.vd_cmd_plan.specs.Numbered.{numbered}

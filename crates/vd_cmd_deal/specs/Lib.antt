@@ -1,1 +1,4 @@
 pub mod Dealing
+pub mod KeyDealing
+pub mod Laws
+pub mod Sources

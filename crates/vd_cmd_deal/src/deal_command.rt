@@ -6,12 +6,10 @@ ghost use Rattle.vd_tape.specs.Made.{AreCounts};
 ghost use Rattle.vd_cmd_deal.specs.Dealing.{deal_files, deal_answer};
 
 use std::alloc::{AllocError, Global};
-use vd_base::Bytes;
-use vd_base_lists::Items;
+use vd_base::{Bytes, Items};
 use vd_cmd_plan::{Answer, Status, file_name};
-use vd_deal_items::{Counts, Deal};
 use vd_outside::Stored;
-use vd_tape::{make, write_deal};
+use vd_tape::{Counts, Deal, make, write_deal};
 
 /// The files of deals: `PREFIX.i.deal` for each host i.
 pub fn files_of(alloc: Global, prefix: &str, deals: &[Deal]) -> Result<Items<Stored>, AllocError>

@@ -1,6 +1,8 @@
 //! The dealer's command: it makes a deal and stores each host's part.
 #![tactic(auto)]
 
+mod cmd_deal_keyed;
 mod deal_command;
 
+pub use cmd_deal_keyed::{deal_by_source, key_deals_are_read};
 pub use deal_command::{deal, files_of};

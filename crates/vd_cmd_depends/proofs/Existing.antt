@@ -5,7 +5,7 @@ use Rattle.vd_base.specs.declared.protocols.HostSet.{HostSet}
 use Rattle.vd_base.specs.HostSets.{host_set}
 use Rattle.vd_core.specs.declared.normal.NormalForm.{NormalForm}
 use Rattle.vd_constraints.specs.declared.labels.Labels.{Labels}
-use Rattle.vd_noninter_laws.specs.Dependence.{Reach}
+use Rattle.vd_noninter.specs.NoninterLawsDependence.{Reach}
 use Rattle.vd_noninter.specs.declared.edge.Edge.{Edge}
 use Rattle.vd_noninter.specs.declared.reader.Reader.{Reader}
 use Rattle.vd_noninter.specs.Hosts.{members, members_with}

@@ -12,8 +12,8 @@ use Rattle.vd_constraints.specs.Rules.{system_of}
 use Rattle.vd_constraints.specs.Satisfies.{IsLeast}
 use Rattle.vd_constraints.specs.declared.labels.Labels.{Labels}
 use Rattle.vd_noninter.specs.Hosts.{members}
-use Rattle.vd_integrity_laws.specs.Influence.{AreInfluences}
-use Rattle.vd_integrity_laws.proofs.Front.{influences_are_enough, influences_are_single, influences_nest, influences_trusted}
+use Rattle.vd_noninter.specs.IntegrityLawsInfluence.{AreInfluences}
+use Rattle.vd_noninter.proofs.Front.{influences_are_enough, influences_are_single, influences_nest, influences_trusted}
 use Rattle.vd_outside.specs.Files.{FilesView}
 use Rattle.vd_cmd_labels.specs.Labelling.{labels_of}
 use Rattle.vd_cmd_labels.specs.Outcomes.{LabelOutcomes}

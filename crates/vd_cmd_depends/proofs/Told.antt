@@ -12,12 +12,12 @@ use Rattle.vd_core.specs.declared.normal.NormalForm.{NormalForm}
 use Rattle.vd_constraints.specs.Rules.{system_of}
 use Rattle.vd_constraints.specs.Satisfies.{IsLeast}
 use Rattle.vd_constraints.specs.declared.labels.Labels.{Labels}
-use Rattle.vd_noninter_laws.proofs.Front.{reached_once}
-use Rattle.vd_noninter_laws.specs.Dependence.{AreEnough, AreReached, AreReadable}
-use Rattle.vd_noninter_laws.specs.Reading.{reads_result}
+use Rattle.vd_noninter.proofs.Front.{reached_once}
+use Rattle.vd_noninter.specs.NoninterLawsDependence.{AreEnough, AreReached, AreReadable}
+use Rattle.vd_noninter.specs.Reading.{reads_result}
 use Rattle.vd_noninter.specs.Hosts.{members}
-use Rattle.vd_noninter_assigned.proofs.Front.{all_hear_reached}
-use Rattle.vd_noninter_assigned.specs.Assigned.{HearsOnly}
+use Rattle.vd_noninter_protocols.proofs.Front.{all_hear_reached}
+use Rattle.vd_noninter_protocols.specs.Assigned.{HearsOnly}
 use Rattle.vd_outside.specs.Files.{FilesView}
 use Rattle.vd_report.specs.Hosts.{host_of}
 use Rattle.vd_report.specs.Lines.{number_field}
@@ -33,7 +33,7 @@ use Rattle.vd_cmd_depends.specs.Depending.{as_host, hosts_line, name_field, prog
 use Rattle.vd_cmd_depends.specs.Outcomes.{DependenceOutcomes}
 use Rattle.vd_cmd_depends.specs.Telling.{TellsDependence, TellsProgram, TellsSource}
 use Rattle.vd_cmd_depends.proofs.Naming.{named, within}
-use Rattle.vd_space_optimum.specs.Cheapest.{IsAssignment}
+use Rattle.vd_space.specs.Cheapest.{IsAssignment}
 use Rattle.vd_space.specs.Reading.{problem_of}
 
 -- ---- two sets with the same members have one line

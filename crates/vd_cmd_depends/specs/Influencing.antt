@@ -6,7 +6,7 @@ use Rattle.vd_base.specs.declared.protocols.HostSet.{HostSet}
 use Rattle.vd_core.specs.Facts.{IsWellMade}
 use Rattle.vd_core.specs.declared.source.Source.{Source}
 use Rattle.vd_core.specs.declared.normal.NormalForm.{NormalForm}
-use Rattle.vd_anf.specs.Normal.{normal_form}
+use Rattle.vd_elaborate.specs.Normal.{normal_form}
 use Rattle.vd_cmd_rewrite.specs.RunPrograms.{run_form}
 use Rattle.vd_cmd_rewrite.specs.RunPrograms.{IsRunProgram}
 use Rattle.vd_outside.specs.Files.{FilesView, Contents}
@@ -21,7 +21,7 @@ use Rattle.vd_cmd_labels.specs.Labelling.{labels_of}
 use Rattle.vd_cmd_labels.specs.Outcomes.{TextOutcomes, LabelOutcomes}
 use Rattle.vd_cmd_labels.specs.Sources.{HoldsSource, source_then}
 use Rattle.vd_noninter.specs.Hosts.{members as is_member}
-use Rattle.vd_integrity_laws.specs.Influence.{AreEnoughToTell, AreInfluences, AreTrusted}
+use Rattle.vd_noninter.specs.IntegrityLawsInfluence.{AreEnoughToTell, AreInfluences, AreTrusted}
 use Rattle.vd_cmd_depends.specs.Depending.{as_host, name_field}
 
 -- a function that gives each host of a program the hosts whose inputs bear on what it is told, through endorsements or not

@@ -8,10 +8,10 @@ use Rattle.vd_core.specs.declared.normal.NormalForm.{NormalForm}
 use Rattle.vd_constraints.specs.Rules.{system_of}
 use Rattle.vd_constraints.specs.Satisfies.{IsLeast}
 use Rattle.vd_constraints.specs.declared.labels.Labels.{Labels}
-use Rattle.vd_noninter_laws.specs.Dependence.{AreEnough, AreReached, AreReadable}
-use Rattle.vd_noninter_laws.specs.Reading.{reads_result}
+use Rattle.vd_noninter.specs.NoninterLawsDependence.{AreEnough, AreReached, AreReadable}
+use Rattle.vd_noninter.specs.Reading.{reads_result}
 use Rattle.vd_noninter.specs.Hosts.{members}
-use Rattle.vd_noninter_assigned.specs.Assigned.{HearsOnly}
+use Rattle.vd_noninter_protocols.specs.Assigned.{HearsOnly}
 use Rattle.vd_cmd_rewrite.specs.RunPrograms.{IsRunProgram}
 use Rattle.vd_outside.specs.Files.{FilesView, Contents}
 use Rattle.vd_report.specs.Hosts.{host_of}
@@ -21,7 +21,7 @@ use Rattle.vd_cmd_plan.specs.declared.status.Status.{Status}
 use Rattle.vd_cmd_plan.specs.declared.status.Status.TheVariants.{Ended}
 use Rattle.vd_cmd_labels.specs.Sources.{HoldsSource}
 use Rattle.vd_cmd_depends.specs.Depending.{hosts_line}
-use Rattle.vd_space_optimum.specs.Cheapest.{IsAssignment}
+use Rattle.vd_space.specs.Cheapest.{IsAssignment}
 use Rattle.vd_space.specs.Reading.{problem_of}
 
 -- This line names the hosts on which the host of this name depends.

@@ -8,8 +8,7 @@ ghost use Rattle.vd_cmd_plan.specs.Plans.{Checks, Computes, ended};
 
 use crate::line::hosts_text;
 use std::alloc::Global;
-use vd_base::{HostId, HostSet, Names, Text};
-use vd_base_lists::Items;
+use vd_base::{HostId, HostSet, Items, Names, Text};
 use vd_cmd_labels::{least_labels, load_source};
 use vd_cmd_plan::{Answer, Status};
 use vd_cmd_rewrite::run_program;

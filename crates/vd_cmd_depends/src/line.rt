@@ -9,8 +9,7 @@ ghost use Rattle.vd_report.specs.Lines.{number_field};
 
 use itoa::Buffer;
 use std::alloc::{AllocError, Global};
-use vd_base::{Bytes, HostId, HostSet, Names};
-use vd_base_lists::Items;
+use vd_base::{Bytes, HostId, HostSet, Items, Names};
 use vd_report::name_of;
 
 /// A host, how many hosts it depends on, and their names in host order.

@@ -10,7 +10,7 @@ use Rattle.vd_constraints.specs.Satisfies.{IsLeast}
 use Rattle.vd_constraints.specs.declared.labels.Labels.{Labels}
 use Rattle.vd_cmd_rewrite.specs.RunPrograms.{IsRunProgram}
 use Rattle.vd_cmd_rewrite.proofs.Front.{run_well_made}
-use Rattle.vd_space_optimum.proofs.Front.{cheapest}
+use Rattle.vd_space.proofs.Front.{cheapest}
 use Rattle.vd_search.specs.Answers.{nat_or_zero}
 use Rattle.vd_search_stages.specs.Choices.{IsChosen}
 use Rattle.vd_search_stages.specs.Optimum.{assigned}
@@ -24,7 +24,7 @@ use Rattle.vd_cmd_plan.specs.declared.answer.Answer.{Answer}
 use Rattle.vd_cmd_plan.specs.declared.status.Status.TheVariants.{Ended, NoAssignment}
 use Rattle.vd_cmd_labels.specs.Sources.{HoldsSource}
 use Rattle.vd_cmd_choice.specs.Choice.{assigned_answer, chosen_by}
-use Rattle.vd_cmd_choice_laws.proofs.Front.{source_choice_came, answered, made_of}
+use Rattle.vd_cmd_laws.proofs.Front.{source_choice_came, answered, made_of}
 use Rattle.vd_draw_rows.proofs.Front.{add_up}
 use Rattle.vd_cmd_draw.specs.Drawing.{drawn_answer, drawn_for}
 use Rattle.vd_cmd_draw.specs.Telling.{DrawingsTell, TellsDrawing}

@@ -9,7 +9,7 @@ ghost use Rattle.vd_cmd_choice.specs.Choice.{chosen_of};
 ghost use Rattle.vd_cmd_draw.specs.Drawing.{ExecutesDraw, drawn_answer, drawn_for};
 
 use std::alloc::Global;
-use vd_base_lists::Items;
+use vd_base::Items;
 use vd_cmd_choice::{Choice, ChosenSource, choice_of, load_source_program, no_assignment};
 use vd_cmd_plan::{Answer, Status};
 use vd_draw_picture::drawing;

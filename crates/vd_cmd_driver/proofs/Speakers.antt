@@ -3,7 +3,7 @@ use Rattle.std.proofs.Common.{◌≡◌, ℕ, IsTrue, List, Ok, subst}
 use Rattle.vd_base.specs.Limits.{most_host_file_bytes}
 use Rattle.vd_cmd.specs.declared.command.HostWords.{HostWords}
 use Rattle.vd_cmd_host.specs.Loading.{HoldsProgram}
-use Rattle.vd_host_text.specs.declared.program.HostProgram.{HostProgram}
+use Rattle.vd_hostcode.specs.declared.host_text.program.HostProgram.{HostProgram}
 use Rattle.vd_hostcode.specs.Outcome.{IsOutcome}
 use Rattle.vd_outside.specs.Files.{Fetches, FilesView, fetched}
 

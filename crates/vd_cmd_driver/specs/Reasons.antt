@@ -9,7 +9,7 @@ use Rattle.vd_channel_link.specs.declared.fault.SealFault.TheVariants as seal_fa
 use Rattle.vd_edge.specs.PeerReasons.{call_text}
 use Rattle.vd_edge.specs.declared.peer_reason.PeerReason.{PeerReason}
 use Rattle.vd_cmd_host.specs.Loading.{HoldsProgram}
-use Rattle.vd_host_text.specs.declared.program.HostProgram.{HostProgram}
+use Rattle.vd_hostcode.specs.declared.host_text.program.HostProgram.{HostProgram}
 use Rattle.vd_outside.specs.Files.{Contents}
 use Rattle.vd_cmd_plan.specs.Shown.{shown}
 

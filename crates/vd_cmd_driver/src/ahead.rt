@@ -10,8 +10,7 @@ use vd_base::limits::{
     CERTIFICATE_BYTES, DEAL_BYTES, HOST_FILE_BYTES, HOSTS, INPUTS_BYTES, SCHEDULE_BYTES,
     SOURCE_BYTES,
 };
-use vd_base::{Text, Texts};
-use vd_base_lists::Items;
+use vd_base::{Items, Text, Texts};
 use vd_cmd::{
     Command, CommandFault, ExcuseWords, FilesCommand, HostWords, KeySource, ReplayWords, read_words,
 };

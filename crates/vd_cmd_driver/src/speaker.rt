@@ -9,8 +9,7 @@ use std::alloc::Global;
 use vd_base::limits::HOST_FILE_BYTES;
 use vd_base::{Bytes, Texts};
 use vd_cmd::{Command, HostWords, read_words};
-use vd_host_text::HostProgram;
-use vd_hostcode::read;
+use vd_hostcode::{HostProgram, read};
 use vd_outside::Files;
 
 /// The program of the host that these words run, where it can be read.

@@ -8,35 +8,35 @@ use Rattle.vd_core.specs.Facts.{IsWellMade}
 use Rattle.vd_constraints.specs.declared.labels.Labels.{Labels}
 use Rattle.vd_core.specs.Numbers.{NumbersFit}
 use Rattle.vd_space.specs.Reading.{problem_of}
-use Rattle.vd_space_optimum.specs.Cheapest.{IsAssignment}
+use Rattle.vd_space.specs.Cheapest.{IsAssignment}
 use Rattle.vd_search_stages.specs.declared.optimum.Assignment.{Assignment}
 use Rattle.vd_cmd_compile.proofs.Front.{assignment_of}
 use Rattle.vd_backend_laws.specs.Parts.{has_back_end}
-use Rattle.vd_deal_items.specs.declared.deal.Deal.{Deal}
-use Rattle.vd_deal_items.specs.declared.deal.DealKind.{DealKind}
+use Rattle.vd_tape.specs.declared.deal_items.deal.Deal.{Deal}
+use Rattle.vd_tape.specs.declared.deal_items.deal.DealKind.{DealKind}
 use Rattle.vd_base.specs.Limits.{most_hosts}
 use Rattle.vd_base.specs.Holders.{proto_in}
-use Rattle.vd_deal_items.specs.Validity.{AreDeals, IsConsistent}
+use Rattle.vd_tape.specs.Validity.{AreDeals, IsConsistent}
 use Rattle.vd_tape.proofs.Front.{all_deals}
 use Rattle.vd_tape.specs.Text.{AreDealsOf}
 use Rattle.vd_execution.specs.Step.{Source, Inputs, OwnWords, Triples, BitTriples, Pairs}
 use Rattle.vd_execution.specs.World.{words_of}
 use Rattle.vd_execution.specs.Joint.{Hosts, fresh, joint}
 use Rattle.vd_machine.specs.Machines.{list_of, pair_item, triple_item, word_item}
-use Rattle.vd_deal_needs_programs.proofs.Front.{any_there}
+use Rattle.vd_deal_needs.proofs.Front.{any_there}
 use Rattle.vd_projection.specs.Programs.{joint_of}
-use Rattle.vd_world_report.specs.Supplies.{items_for}
+use Rattle.vd_world.specs.Supplies.{items_for}
 use Rattle.vd_report.specs.Hosts.{host_of}
 use Rattle.vd_cmd_plan.specs.declared.answer.Answer.{Answer}
 use Rattle.vd_cmd_choice.specs.Choice.{IsSelected}
-use Rattle.vd_views_programs.specs.Explained.{IsOfTwo, plan_of}
+use Rattle.vd_views.specs.Explained.{IsOfTwo, plan_of}
 use Rattle.vd_machine.specs.Dealt.{dealt_count, counts_of}
-use Rattle.vd_views_deals.specs.Files.{tape_of}
-use Rattle.vd_equivocation_deals.specs.Short.{short_kind, end_of, TakesNoMore}
-use Rattle.vd_equivocation_deals.proofs.Front.{short_kinds_are_exact}
+use Rattle.vd_views.specs.Files.{tape_of}
+use Rattle.vd_equivocation.specs.Short.{short_kind, end_of, TakesNoMore}
+use Rattle.vd_equivocation.proofs.Front.{short_kinds_are_exact}
 use Rattle.vd_equivocation.specs.Excuse.{AreAsked, IsExcused, fault_of}
-use Rattle.vd_noninter_difference.specs.Difference.{view_difference}
-use Rattle.vd_views_transcript.specs.Talk.{IsPlayable, talk}
+use Rattle.vd_noninter_protocols.specs.Difference.{view_difference}
+use Rattle.vd_equivocation.specs.Talk.{IsPlayable, talk}
 use Rattle.vd_cmd_excuse.specs.declared.runs.Runs.{Runs}
 use Rattle.vd_cmd_excuse.specs.Runs.{AreRead}
 use Rattle.vd_cmd_excuse.specs.Excusing.{excuse_answer, talk_line}

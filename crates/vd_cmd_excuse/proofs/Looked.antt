@@ -13,11 +13,11 @@ use Rattle.vd_base.specs.Holders.{proto_in}
 use Rattle.vd_core.specs.declared.normal.NormalForm.{NormalForm}
 use Rattle.vd_constraints.specs.declared.labels.Labels.{Labels}
 use Rattle.vd_backend_laws.specs.Parts.{has_back_end}
-use Rattle.vd_deal_items.specs.declared.deal.Deal.{Deal}
+use Rattle.vd_tape.specs.declared.deal_items.deal.Deal.{Deal}
 use Rattle.vd_cmd_plan.specs.declared.status.Status.{Status}
 use Rattle.vd_cmd_plan.specs.declared.status.Status.TheVariants.{NotTwo}
-use Rattle.vd_views_programs.specs.Explained.{plan_of}
-use Rattle.vd_equivocation_deals.specs.Excuses.{excuse_files}
+use Rattle.vd_views.specs.Explained.{plan_of}
+use Rattle.vd_equivocation.specs.Excuses.{excuse_files}
 use Rattle.vd_equivocation.specs.declared.fault.ViewFault.{ViewFault}
 use Rattle.vd_equivocation.specs.Excuse.{IsExcused, fault_at}
 use Rattle.vd_cmd_excuse.specs.declared.runs.Runs.{Runs}

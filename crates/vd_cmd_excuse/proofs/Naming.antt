@@ -11,7 +11,7 @@ use Rattle.vd_cmd_plan.specs.declared.status.Status.{Status}
 use Rattle.vd_cmd_plan.proofs.Front.{check_step}
 use Rattle.vd_cmd_labels.specs.Outcomes.{LabelOutcomes}
 use Rattle.vd_cmd_choice.specs.Searching.{Search}
-use Rattle.vd_report_laws.specs.Outcomes.{ReplayOutcomes}
+use Rattle.vd_cmd_files.specs.Outcomes.{ReplayOutcomes}
 use Rattle.vd_cmd_depends.specs.Depending.{as_host}
 use Rattle.vd_cmd_depends.proofs.Front.{named, within}
 use Rattle.vd_cmd_excuse.specs.declared.runs.Runs.{Runs}

@@ -3,7 +3,7 @@ use Rattle.std.proofs.Common.{◌≡◌, ◌≤◌, ℕ, IsTrue, List, length, O
 use Rattle.vd_base.specs.Limits.{most_hosts}
 use Rattle.vd_outside.specs.Files.{FilesView, Contents}
 use Rattle.vd_cmd.specs.declared.command.ExcuseWords.{ExcuseWords}
-use Rattle.vd_deal_items.specs.declared.deal.Deal.{Deal}
+use Rattle.vd_tape.specs.declared.deal_items.deal.Deal.{Deal}
 use Rattle.vd_tape.specs.Text.{AreDealsOf}
 use Rattle.vd_cmd_plan.specs.Plans.{Plan, ExecutesStep}
 use Rattle.vd_cmd_plan.specs.declared.status.Status.{Status}
@@ -11,7 +11,7 @@ use Rattle.vd_cmd_plan.proofs.Front.{step_keeps, step_tells}
 use Rattle.vd_cmd_labels.specs.Outcomes.{TextOutcomes}
 use Rattle.vd_cmd_labels.proofs.Front.{some_texts}
 use Rattle.vd_cmd_labels.specs.Inputs.{inputs_then, HoldsInputs}
-use Rattle.vd_report_laws.specs.Outcomes.{ReplayOutcomes}
+use Rattle.vd_cmd_files.specs.Outcomes.{ReplayOutcomes}
 use Rattle.vd_cmd_files.specs.Deals.{HoldDeals, deals_then}
 use Rattle.vd_base.specs.Words.{InputsAreWords}
 use Rattle.vd_cmd_excuse.specs.declared.runs.Runs.{Runs}

@@ -5,7 +5,7 @@ use Rattle.vd_base.specs.declared.ids.HostId.{HostId}
 use Rattle.vd_outside.specs.Files.{Contents}
 use Rattle.vd_core.specs.declared.normal.NormalForm.{NormalForm}
 use Rattle.vd_cmd.specs.declared.command.ExcuseWords.{ExcuseWords}
-use Rattle.vd_deal_items.specs.declared.deal.Deal.{Deal}
+use Rattle.vd_tape.specs.declared.deal_items.deal.Deal.{Deal}
 use Rattle.vd_search_stages.specs.Choices.{ChoiceOutcomes}
 use Rattle.vd_cmd_plan.specs.Numbered.{file_name}
 use Rattle.vd_cmd_plan.specs.Plans.{Plan, check_then}
@@ -16,7 +16,7 @@ use Rattle.vd_cmd_choice.proofs.Front.{program_follows, choice_follows}
 use Rattle.vd_cmd_depends.specs.Depending.{as_host}
 use Rattle.vd_cmd_choice.specs.Outcomes.{CertificateOutcomes}
 use Rattle.vd_cmd_choice.specs.Searching.{Searched, searched_by, sure_search}
-use Rattle.vd_report_laws.specs.Outcomes.{ReplayOutcomes}
+use Rattle.vd_cmd_files.specs.Outcomes.{ReplayOutcomes}
 use Rattle.vd_cmd_files.specs.Deals.{deal_of, deal_then, deals_from}
 use Rattle.vd_cmd_excuse.specs.declared.runs.Runs.{Runs}
 use Rattle.vd_cmd_excuse.specs.Runs.{runs_of}

@@ -8,7 +8,7 @@ use Rattle.vd_core.specs.declared.normal.NormalForm.{NormalForm}
 use Rattle.vd_constraints.specs.declared.labels.Labels.{Labels}
 use Rattle.vd_backend_laws.specs.Parts.{has_back_end}
 use Rattle.vd_cmd.specs.declared.command.ExcuseWords.{ExcuseWords}
-use Rattle.vd_deal_items.specs.declared.deal.Deal.{Deal}
+use Rattle.vd_tape.specs.declared.deal_items.deal.Deal.{Deal}
 use Rattle.vd_report.specs.Lines.{words_line}
 use Rattle.vd_search_stages.specs.Choices.{ChoiceOutcomes}
 use Rattle.vd_search_stages.specs.declared.optimum.Assignment.{Assignment}
@@ -23,14 +23,14 @@ use Rattle.vd_cmd_choice.specs.Programs.{program_then}
 use Rattle.vd_cmd_depends.specs.Depending.{as_host}
 use Rattle.vd_cmd_choice.specs.Searching.{Search, SomeSearch}
 use Rattle.vd_cmd_choice.specs.Choice.{choice_of_then, no_list}
-use Rattle.vd_report_laws.specs.Outcomes.{ReplayOutcomes}
+use Rattle.vd_cmd_files.specs.Outcomes.{ReplayOutcomes}
 use Rattle.vd_cmd_files.specs.Deals.{as_consistent}
-use Rattle.vd_views_programs.specs.Explained.{plan_of}
-use Rattle.vd_equivocation_deals.specs.Excuses.{excuse_files}
+use Rattle.vd_views.specs.Explained.{plan_of}
+use Rattle.vd_equivocation.specs.Excuses.{excuse_files}
 use Rattle.vd_equivocation.specs.declared.fault.ViewFault.{ViewFault}
 use Rattle.vd_equivocation.specs.declared.fault.ViewFault.TheVariants as view_fault
 use Rattle.vd_equivocation.specs.Excuse.{fault_at}
-use Rattle.vd_views_transcript.specs.Talk.{talk}
+use Rattle.vd_equivocation.specs.Talk.{talk}
 use Rattle.vd_cmd_excuse.specs.declared.runs.Runs.{Runs}
 use Rattle.vd_cmd_excuse.specs.Runs.{runs_then}
 

@@ -4,14 +4,14 @@ use Rattle.vd_base.specs.Limits.{most_hosts}
 use Rattle.vd_outside.specs.Files.{FilesView, Contents}
 use Rattle.vd_cmd.specs.declared.command.ExcuseWords.{ExcuseWords}
 use Rattle.vd_core.specs.declared.normal.NormalForm.{NormalForm}
-use Rattle.vd_deal_items.specs.Validity.{IsConsistent}
-use Rattle.vd_deal_items.specs.declared.deal.Deal.{Deal}
+use Rattle.vd_tape.specs.Validity.{IsConsistent}
+use Rattle.vd_tape.specs.declared.deal_items.deal.Deal.{Deal}
 use Rattle.vd_tape.specs.Text.{AreDealsOf}
 use Rattle.vd_cmd_plan.specs.Plans.{Plan, ExecutesStep}
 use Rattle.vd_cmd_plan.specs.declared.status.Status.{Status}
 use Rattle.vd_cmd_labels.specs.Outcomes.{TextOutcomes}
 use Rattle.vd_cmd_labels.specs.Inputs.{inputs_then, HoldsInputs}
-use Rattle.vd_report_laws.specs.Outcomes.{ReplayOutcomes}
+use Rattle.vd_cmd_files.specs.Outcomes.{ReplayOutcomes}
 use Rattle.vd_cmd_files.specs.Deals.{deals_then, HoldDeals}
 use Rattle.vd_base.specs.Words.{InputsAreWords}
 use Rattle.vd_cmd_excuse.specs.declared.runs.Runs.{Runs}

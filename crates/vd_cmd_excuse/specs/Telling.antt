@@ -8,7 +8,7 @@ use Rattle.vd_core.specs.declared.source.Source.{Source}
 use Rattle.vd_search_stages.specs.declared.optimum.Assignment.{Assignment}
 use Rattle.vd_cmd_rewrite.specs.RunPrograms.{IsRunProgram}
 use Rattle.vd_cmd.specs.declared.command.ExcuseWords.{ExcuseWords}
-use Rattle.vd_deal_items.specs.declared.deal.Deal.{Deal}
+use Rattle.vd_tape.specs.declared.deal_items.deal.Deal.{Deal}
 use Rattle.vd_report.specs.Hosts.{host_of}
 use Rattle.vd_cmd_plan.specs.Held.{Finds}
 use Rattle.vd_cmd_plan.specs.declared.answer.Answer.{Answer}
@@ -17,9 +17,9 @@ use Rattle.vd_cmd_plan.specs.declared.status.Status.TheVariants.{Ended}
 use Rattle.vd_cmd_deal.specs.Dealing.{deal_files}
 use Rattle.vd_cmd_labels.specs.Sources.{HoldsSource}
 use Rattle.vd_cmd_choice.specs.Choice.{IsSelected}
-use Rattle.vd_views_programs.specs.Explained.{IsOfTwo, plan_of, AgreeFor}
-use Rattle.vd_views_deals.specs.Files.{IsExcuse}
-use Rattle.vd_views_transcript.specs.Talk.{talk}
+use Rattle.vd_views.specs.Explained.{IsOfTwo, plan_of, AgreeFor}
+use Rattle.vd_views.specs.Files.{IsExcuse}
+use Rattle.vd_equivocation.specs.Talk.{talk}
 use Rattle.vd_cmd_excuse.specs.declared.runs.Runs.{Runs}
 use Rattle.vd_cmd_excuse.specs.Runs.{HoldRuns}
 use Rattle.vd_cmd_excuse.specs.Excusing.{talk_line}

@@ -4,7 +4,7 @@ ghost use Rattle.std.specs.Prelude.{◌≡◌, OnOk, IfOk, ◌<◌, length, true
 ghost use Rattle.vd_constraints.specs.declared.labels.Labels.{Labels};
 ghost use Rattle.vd_base.specs.Holders.{proto_in};
 ghost use Rattle.vd_projection.specs.Programs.{CanRunAt};
-ghost use Rattle.vd_views_programs.specs.Explained.{IsOfTwo};
+ghost use Rattle.vd_views.specs.Explained.{IsOfTwo};
 ghost use Rattle.vd_backend_laws.specs.Parts.{has_back_end};
 ghost use Rattle.vd_cmd_plan.specs.Plans.{Checks};
 ghost use Rattle.vd_equivocation.specs.Excuse.{AreAsked, IsExcused};
@@ -15,8 +15,8 @@ use std::alloc::Global;
 use vd_base::{HostId, Names, Proto};
 use vd_cmd_plan::Status;
 use vd_core::Program;
-use vd_deal_items::Deals;
 use vd_equivocation::{ViewFault, excuse};
+use vd_tape::Deals;
 
 /// Refuses another number of hosts than two.
 pub(crate) fn expect_two(names: &Names) -> Result<(), Status>

@@ -4,7 +4,7 @@ ghost use Rattle.std.specs.Prelude.{◌≡◌, ◌<◌, ◌≤◌, ℕ, length, 
 ghost use Rattle.vd_base.specs.Limits.{most_search_budget};
 ghost use Rattle.vd_constraints.specs.declared.labels.Labels.{Labels};
 ghost use Rattle.vd_base.specs.Holders.{proto_in};
-ghost use Rattle.vd_space_optimum.specs.Cheapest.{IsAssignment};
+ghost use Rattle.vd_space.specs.Cheapest.{IsAssignment};
 ghost use Rattle.vd_cmd_choice.specs.Choice.{IsSelected};
 ghost use Rattle.vd_space.specs.Reading.{problem_of};
 ghost use Rattle.vd_backend_laws.specs.Parts.{has_back_end};

@@ -11,8 +11,8 @@ use vd_cmd::ExcuseWords;
 use vd_cmd_files::load_deals;
 use vd_cmd_labels::load_inputs;
 use vd_cmd_plan::Status;
-use vd_deal_items::Deals;
 use vd_outside::Files;
+use vd_tape::Deals;
 
 /// The inputs of a run, other inputs, and the deals of the run.
 #[derive(Drop)]

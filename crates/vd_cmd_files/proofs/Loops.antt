@@ -7,15 +7,15 @@ use Rattle.std.proofs.lemmas.Bool.{cases_lt}
 use Rattle.std.proofs.lemmas.List.{get_or_append_left}
 use Rattle.std.proofs.lemmas.Option.{get_or_from_slice_get, slice_get-get_or, slice_get_within}
 use Rattle.vd_outside.specs.Files.{FilesView, Contents}
-use Rattle.vd_deal_items.specs.declared.deal.Deal.{Deal}
+use Rattle.vd_tape.specs.declared.deal_items.deal.Deal.{Deal}
 use Rattle.vd_cmd_plan.specs.Held.{Finds}
 use Rattle.vd_cmd_plan.specs.Plans.{Plan, Executes, ExecutesStep, only, refused}
 use Rattle.vd_cmd_plan.specs.declared.answer.Answer.{Answer}
 use Rattle.vd_cmd_plan.specs.declared.status.Status.{Status}
 use Rattle.vd_cmd_plan.specs.declared.status.Status.TheVariants.{Memory}
 use Rattle.vd_cmd_plan.proofs.Front.{any_memory}
-use Rattle.vd_report_laws.specs.Outcomes.{ReplayOutcomes}
-use Rattle.vd_report_laws.proofs.Front.{some_outcomes}
+use Rattle.vd_cmd_files.specs.Outcomes.{ReplayOutcomes}
+use Rattle.vd_cmd_files.proofs.Picked.{some_outcomes}
 use Rattle.vd_cmd_files.specs.Deals.{HoldDeals, HoldsDeal, deal_then, deals_from, deals_then}
 
 module _ (prefix : List ℕ) (names : List (List ℕ)) where

@@ -3,7 +3,7 @@ use Rattle.std.proofs.Common.{◌≡◌, ℕ, ◌<◌, ◌≤◌, List, IfOk, Re
 use Rattle.vd_base.specs.Limits.{most_deal_bytes, most_hosts, most_schedule_bytes}
 use Rattle.vd_outside.specs.Files.{FilesView}
 use Rattle.vd_base_codec.specs.Reading.{capped}
-use Rattle.vd_deal_items.specs.declared.deal.Deal.{Deal}
+use Rattle.vd_tape.specs.declared.deal_items.deal.Deal.{Deal}
 use Rattle.vd_base.specs.declared.faults.FileFault.{FileFault}
 use Rattle.vd_base.specs.declared.faults.FileFault.TheVariants as file_fault
 use Rattle.vd_deal_versions.specs.Plain.{Accepts, Refuses}
@@ -16,7 +16,7 @@ use Rattle.vd_cmd_plan.specs.Plans.{Checks, ExecutesStep, file_then, check_then}
 use Rattle.vd_cmd_plan.specs.declared.status.Status.{Status}
 use Rattle.vd_cmd_plan.specs.declared.status.Status.TheVariants.{DealText}
 use Rattle.vd_cmd_plan.proofs.Front.{loaded_is, both_steps, check_step, first_step, load_step}
-use Rattle.vd_report_laws.specs.Outcomes.{IsDealRead, ReplayOutcomes}
+use Rattle.vd_cmd_files.specs.Outcomes.{IsDealRead, ReplayOutcomes}
 use Rattle.vd_cmd_files.specs.Deals.{as_deal, deal_of, deal_then}
 use Rattle.vd_cmd_files.specs.Schedules.{schedule_of, schedule_then}
 

@@ -3,15 +3,15 @@ use Rattle.std.specs.Prelude.{◌≡◌, ℕ, ◌+◌, List, [], ◌∷◌, ◌+
 use Rattle.vd_base.specs.Limits.{most_deal_bytes}
 use Rattle.vd_outside.specs.Files.{FilesView, Contents}
 use Rattle.vd_base_codec.specs.Reading.{capped}
-use Rattle.vd_deal_items.specs.declared.deal.BadItem.{BadItem}
-use Rattle.vd_deal_items.specs.declared.deal.Deal.{Deal}
+use Rattle.vd_tape.specs.declared.deal_items.deal.BadItem.{BadItem}
+use Rattle.vd_tape.specs.declared.deal_items.deal.Deal.{Deal}
 use Rattle.vd_deal_versions.specs.Plain.{IsDealIn}
 use Rattle.vd_cmd_plan.specs.Held.{IsHeld}
 use Rattle.vd_cmd_plan.specs.Numbered.{file_name}
 use Rattle.vd_cmd_plan.specs.Plans.{Plan, ExecutesStep, file_then, check_then}
 use Rattle.vd_cmd_plan.specs.declared.status.Status.{Status}
 use Rattle.vd_cmd_plan.specs.declared.status.Status.TheVariants.{BadDeal, DealText}
-use Rattle.vd_report_laws.specs.Outcomes.{ReplayOutcomes}
+use Rattle.vd_cmd_files.specs.Outcomes.{ReplayOutcomes}
 
 abbrev pub as_deal : List ℕ → (number : ℕ) → Result Deal ℕ → Result Deal Status
 as_deal name number (Ok deal) = Ok deal

@@ -1,3 +1,5 @@
 pub mod Deals
 pub mod Schedules
 pub mod Asking
+pub mod Outcomes
+pub mod Choices

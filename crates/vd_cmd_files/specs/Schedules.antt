@@ -9,7 +9,7 @@ use Rattle.vd_cmd_plan.specs.Held.{IsHeld}
 use Rattle.vd_cmd_plan.specs.Plans.{Plan, ExecutesStep, file_then, check_then}
 use Rattle.vd_cmd_plan.specs.Refusals.{schedule_status}
 use Rattle.vd_cmd_plan.specs.declared.status.Status.{Status}
-use Rattle.vd_report_laws.specs.Outcomes.{ReplayOutcomes}
+use Rattle.vd_cmd_files.specs.Outcomes.{ReplayOutcomes}
 
 -- the schedule, or the status of a refusal
 abbrev pub as_schedule : Result Schedule ReadFault → Result Schedule Status

@@ -1,6 +1,6 @@
 use vd_base::Inputs;
-use vd_deal_items::Deals;
 use vd_report::Schedule;
+use vd_tape::Deals;
 
 /// What the hosts of a program are to run on: the inputs and the deal of each, and a schedule; and whether links are reported.
 #[derive(Drop)]

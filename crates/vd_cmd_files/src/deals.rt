@@ -7,16 +7,15 @@ ghost use Rattle.vd_cmd_plan.specs.Plans.{Checks};
 ghost use Rattle.vd_tape.specs.Text.{AreDealsOf, IsDealOf};
 ghost use Rattle.vd_deal_versions.specs.Plain.{IsDealIn};
 ghost use Rattle.vd_cmd_files.specs.Deals.{HoldDeals, HoldsDeal, LoadsDeal, LoadsDeals, deal_of};
-ghost use Rattle.vd_report_laws.specs.Outcomes.{ReplayOutcomes};
+ghost use Rattle.vd_cmd_files.specs.Outcomes.{ReplayOutcomes};
 
 use std::alloc::Global;
 use vd_base::limits::DEAL_BYTES;
-use vd_base::{FileFault, HostId, Name};
-use vd_base_lists::Items;
+use vd_base::{FileFault, HostId, Items, Name};
 use vd_cmd_plan::{Status, file_name, load};
-use vd_deal_items::{Deal, Deals};
 use vd_deal_versions::read_plain_deal;
 use vd_outside::Files;
+use vd_tape::{Deal, Deals};
 
 /// The deal of a host among so many, or why there is none.
 fn deal_in(alloc: Global, bytes: &[u8], hosts: u8, number: u8, name: &Name) -> Result<Deal, Status>

@@ -5,9 +5,11 @@ mod asked;
 mod checks;
 mod deals;
 mod loading;
+mod report_laws;
 mod schedules;
 
 pub use asked::Asked;
 pub use checks::expect_consistent;
 pub use deals::load_deals;
 pub use loading::load_asked;
+pub use report_laws::{choice_lines_tell_the_choice, outcomes_are_single, outcomes_exist};

@@ -5,7 +5,7 @@ ghost use Rattle.vd_base.specs.Limits.{most_hosts};
 ghost use Rattle.vd_cmd_plan.specs.Held.{Finds};
 ghost use Rattle.vd_cmd_plan.specs.Plans.{Checks};
 ghost use Rattle.vd_report.specs.ScheduleText.{GivesSchedule};
-ghost use Rattle.vd_report_laws.specs.Outcomes.{ReplayOutcomes};
+ghost use Rattle.vd_cmd_files.specs.Outcomes.{ReplayOutcomes};
 ghost use Rattle.vd_cmd_files.specs.Schedules.{HoldsSchedule, LoadsSchedule, schedule_of};
 
 use std::alloc::Global;

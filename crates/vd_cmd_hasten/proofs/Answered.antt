@@ -2,13 +2,13 @@
 use Rattle.std.proofs.Common.{◌≡◌, ℕ, true, List, Result, Ok, Err, subst}
 use Rattle.vd_base.specs.Limits.{most_host_file_bytes}
 use Rattle.vd_outside.specs.Files.{FilesView}
-use Rattle.vd_host_text.specs.declared.program.HostProgram.{HostProgram}
+use Rattle.vd_hostcode.specs.declared.host_text.program.HostProgram.{HostProgram}
 use Rattle.vd_cmd_plan.specs.Loads.{Loads}
 use Rattle.vd_cmd_plan.specs.Plans.{Checks, Computes, Executes}
 use Rattle.vd_cmd_plan.specs.declared.answer.Answer.{Answer}
 use Rattle.vd_cmd_plan.specs.declared.status.Status.{Status}
 use Rattle.vd_cmd_plan.proofs.Front.{answers, check_step, load_step}
-use Rattle.vd_cmd_programs.specs.Programs.{ProgramOutcomes, program_in}
+use Rattle.vd_cmd_plan.specs.Programs.{ProgramOutcomes, program_in}
 use Rattle.vd_cmd_hasten.specs.Hastening.{bytes_plan, hasten_plan, hastened_answer, program_plan}
 
 pub refused : (programs : ProgramOutcomes) (out bytes : List ℕ) (files : FilesView) (status : Status) → Checks {T = HostProgram} (program_in programs bytes) (Err status)

@@ -4,7 +4,7 @@ use Rattle.vd_base.specs.Limits.{most_host_file_bytes}
 use Rattle.vd_outside.specs.Files.{Contents, fetched}
 use Rattle.vd_outside.specs.declared.faults.FetchFault.{FetchFault}
 use Rattle.vd_outside.specs.declared.faults.FetchFault.TheVariants as fetch_fault
-use Rattle.vd_host_text.specs.declared.program.HostProgram.{HostProgram}
+use Rattle.vd_hostcode.specs.declared.host_text.program.HostProgram.{HostProgram}
 use Rattle.vd_hostcode.specs.Outcome.{IsOutcome}
 use Rattle.vd_hostcode.specs.declared.fault.CodeFault.{CodeFault}
 use Rattle.vd_hostcode.specs.declared.fault.CodeFault.TheVariants.{Text, Range, Memory}
@@ -13,7 +13,7 @@ use Rattle.vd_cmd_plan.specs.Deliver.{stored}
 use Rattle.vd_cmd_plan.specs.Plans.{Plan, answer_then, check_then, file_then, with_file}
 use Rattle.vd_cmd_plan.specs.declared.status.Status.TheVariants.{Ended}
 use Rattle.vd_reorder.proofs.Front.{hastened_is}
-use Rattle.vd_cmd_programs.specs.Programs.{ProgramOutcomes, as_program}
+use Rattle.vd_cmd_plan.specs.Programs.{ProgramOutcomes, as_program}
 use Rattle.vd_cmd_hasten.specs.Hastening.{bytes_plan, program_plan}
 use Rattle.vd_cmd_hasten.specs.Telling.{HastensTell, TellsHastened}
 

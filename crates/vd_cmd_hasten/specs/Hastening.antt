@@ -2,12 +2,12 @@
 use Rattle.std.specs.Prelude.{ℕ, true, List, [], ◌∷◌, Result}
 use Rattle.vd_base.specs.Limits.{most_host_file_bytes}
 use Rattle.vd_outside.specs.Files.{FilesView, Contents}
-use Rattle.vd_host_text.specs.declared.program.HostProgram.{HostProgram}
-use Rattle.vd_host_text.specs.Text.{program_text}
+use Rattle.vd_hostcode.specs.declared.host_text.program.HostProgram.{HostProgram}
+use Rattle.vd_hostcode.specs.Text.{program_text}
 use Rattle.vd_cmd_plan.specs.Plans.{Plan, Executes, answer_then, check_then, ended, file_then}
 use Rattle.vd_cmd_plan.specs.declared.answer.Answer.{Answer}
 use Rattle.vd_cmd_plan.specs.declared.status.Status.{Status}
-use Rattle.vd_cmd_programs.specs.Programs.{ProgramOutcomes, program_in}
+use Rattle.vd_cmd_plan.specs.Programs.{ProgramOutcomes, program_in}
 use Rattle.vd_cmd_hasten.specs.Programs.{hastened_program}
 
 -- one file is stored, and nothing is printed

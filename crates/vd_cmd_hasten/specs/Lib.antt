@@ -1,3 +1,5 @@
 pub mod Programs
 pub mod Hastening
 pub mod Telling
+pub mod Blind
+pub mod Files

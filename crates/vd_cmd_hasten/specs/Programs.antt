@@ -1,5 +1,5 @@
 -- The hastened program of a host.
-use Rattle.vd_host_text.specs.declared.program.HostProgram.{HostProgram}
+use Rattle.vd_hostcode.specs.declared.host_text.program.HostProgram.{HostProgram}
 use Rattle.vd_reorder.specs.Passing.{hastened_by}
 
 -- the same hosts, number and plan, with the hastened code

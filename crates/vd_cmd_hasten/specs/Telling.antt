@@ -5,13 +5,13 @@ use Rattle.vd_outside.specs.Files.{Contents, with_content}
 use Rattle.vd_execution.specs.Code.{Code}
 use Rattle.vd_execution.specs.Text.{IsCodeOf}
 use Rattle.vd_reorder.specs.Passing.{IsHastenedText}
-use Rattle.vd_host_text.specs.declared.program.HostProgram.{HostProgram}
-use Rattle.vd_host_text.specs.Text.{program_text}
+use Rattle.vd_hostcode.specs.declared.host_text.program.HostProgram.{HostProgram}
+use Rattle.vd_hostcode.specs.Text.{program_text}
 use Rattle.vd_hostcode.specs.Outcome.{IsOutcome}
 use Rattle.vd_cmd_plan.specs.Deliver.{stored}
 use Rattle.vd_cmd_plan.specs.Held.{IsHeld}
 use Rattle.vd_cmd_plan.specs.declared.status.Status.TheVariants.{Ended}
-use Rattle.vd_cmd_programs.specs.Programs.{ProgramOutcomes}
+use Rattle.vd_cmd_plan.specs.Programs.{ProgramOutcomes}
 use Rattle.vd_cmd_hasten.specs.Programs.{hastened_program}
 use Rattle.vd_cmd_hasten.specs.Hastening.{hasten_plan}
 

@@ -7,11 +7,9 @@ ghost use Rattle.vd_cmd_hasten.specs.Hastening.{ExecutesBytes, ExecutesHasten, h
 use crate::program::hasten_program;
 use std::alloc::{AllocError, Global};
 use vd_base::limits::HOST_FILE_BYTES;
-use vd_base::{Bytes, Text};
-use vd_base_lists::Items;
-use vd_cmd_plan::{Answer, Status, load};
-use vd_cmd_programs::program_in;
-use vd_host_text::{HostProgram, print};
+use vd_base::{Bytes, Items, Text};
+use vd_cmd_plan::{Answer, Status, load, program_in};
+use vd_hostcode::{HostProgram, print};
 use vd_outside::{Files, Stored};
 
 /// The answer that stores these bytes at a name, and prints nothing.

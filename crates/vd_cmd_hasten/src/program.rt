@@ -4,7 +4,7 @@ ghost use Rattle.std.specs.Prelude.{◌≡◌, IfOk};
 ghost use Rattle.vd_cmd_hasten.specs.Programs.{hastened_program};
 
 use std::alloc::{AllocError, Global};
-use vd_host_text::HostProgram;
+use vd_hostcode::HostProgram;
 use vd_reorder::hasten_code;
 
 /// The program with its code hastened. Its hosts, its number and its plan stay, so its peers need not know.

@@ -11,7 +11,7 @@ use Rattle.vd_base_codec.specs.Digits.{IsByte, IsKey, hex_byte, hex_digit, key_t
 use Rattle.vd_base_codec.specs.Exact.{IsBreak, IsExact}
 use Rattle.vd_base_codec.specs.Reading.{Reading, field, field_at}
 use Rattle.vd_base_codec.proofs.Front.{AtMost, field_exact}
-use Rattle.vd_host_text.specs.declared.program.HostProgram.{HostProgram}
+use Rattle.vd_hostcode.specs.declared.host_text.program.HostProgram.{HostProgram}
 use Rattle.vd_cmd_host.specs.Marking.{mark_name}
 use Rattle.vd_cmd_host.specs.Once.{IsMarkable, MarksStandByDeals, MarksTell, NamesAreApart}
 

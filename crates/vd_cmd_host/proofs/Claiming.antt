@@ -3,12 +3,12 @@ use Rattle.std.proofs.Common.{arith, ◌≡◌, ◌∙◌, ℕ, Bool, true, List
 use Rattle.std.proofs.lemmas.Slice.Eq.{bytes_eq-Decides}
 use Rattle.vd_base.specs.declared.faults.CallFault.{CallFault}
 use Rattle.vd_outside.specs.Files.{Contents, with_content}
-use Rattle.vd_outside_marks.specs.Marks as outside
-use Rattle.vd_outside_marks.specs.Marks.{MarksView, Draws}
-use Rattle.vd_outside_marks.specs.declared.marks.MarksCall.{MarksCall}
-use Rattle.vd_outside_marks.specs.declared.marks.MarksCall.TheVariants.{Claim}
+use Rattle.vd_outside.specs.Marks as outside
+use Rattle.vd_outside.specs.Marks.{MarksView, Draws}
+use Rattle.vd_outside.specs.declared.outside_marks.marks.MarksCall.{MarksCall}
+use Rattle.vd_outside.specs.declared.outside_marks.marks.MarksCall.TheVariants.{Claim}
 use Rattle.vd_cmd.specs.declared.command.HostWords.{HostWords}
-use Rattle.vd_host_text.specs.declared.program.HostProgram.{HostProgram}
+use Rattle.vd_hostcode.specs.declared.host_text.program.HostProgram.{HostProgram}
 use Rattle.vd_cmd_host.specs.Marking.{Claims, mark_name, mark_of, mark_text}
 
 -- what is put at a name stands there

@@ -4,12 +4,12 @@ use Rattle.std.specs.Prelude.{MatchOption, is_some}
 use Rattle.vd_outside.specs.Files.{FilesView}
 use Rattle.vd_outside.specs.Net.{NetView}
 use Rattle.vd_outside.specs.Sink.{SinkView}
-use Rattle.vd_outside_marks.specs.Marks.{MarksView}
-use Rattle.vd_deal_keys.specs.declared.secrets.Secrets.{Secrets}
-use Rattle.vd_channel_net.specs.Seals.{sealed_by}
-use Rattle.vd_channel_net.specs.declared.seal.Seal.{Seal}
+use Rattle.vd_outside.specs.Marks.{MarksView}
+use Rattle.vd_channel_crypto.specs.declared.deal_keys.secrets.Secrets.{Secrets}
+use Rattle.vd_channel_link.specs.Seals.{sealed_by}
+use Rattle.vd_channel_link.specs.declared.channel_net.seal.Seal.{Seal}
 use Rattle.vd_cmd.specs.declared.command.HostWords.{HostWords}
-use Rattle.vd_host_text.specs.declared.program.HostProgram.{HostProgram}
+use Rattle.vd_hostcode.specs.declared.host_text.program.HostProgram.{HostProgram}
 use Rattle.vd_cmd_plan.specs.declared.status.Status.{Status}
 use Rattle.vd_cmd_plan.specs.declared.status.Status.TheVariants as status
 use Rattle.vd_cmd_host.specs.Hosts.{EndsMarked, HostRuns, IsSealedFor, Marked, NetsView, NotMarked, PlainRuns, Plainly, RanMarked, RunsLoaded, WentWell, WentWrong, status_after}

@@ -7,7 +7,7 @@ use Rattle.vd_cmd_plan.specs.declared.status.HostStatus.TheVariants as host_stat
 use Rattle.vd_cmd_plan.specs.declared.status.Status.{Status}
 use Rattle.vd_cmd_plan.specs.declared.status.Status.TheVariants.{DealText, Host, InputText, Memory, ReadFault, TooLong}
 use Rattle.vd_cmd_plan.proofs.Front.{all_within, same_within}
-use Rattle.vd_cmd_programs.specs.Programs.{IsProgramEnd}
+use Rattle.vd_cmd_plan.specs.Programs.{IsProgramEnd}
 use Rattle.vd_cmd_host.specs.Loading.{EndsLoading, IsDealEnd, IsFileCause, IsInputsEnd, LoadsFile}
 
 -- a reader ends with these alone

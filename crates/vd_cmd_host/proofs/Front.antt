@@ -1,2 +1,3 @@
 -- The lemmas that other crates cite.
 pub use Rattle.vd_cmd_host.proofs.Marked.{used_once}
+pub use Rattle.vd_cmd_host.proofs.Serving.{plain_served, served}

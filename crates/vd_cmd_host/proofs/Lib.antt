@@ -11,3 +11,10 @@ mod Refusals
 mod Running
 mod Runs
 mod Twice
+mod CmdHostLawsFiles
+mod Giving
+mod Returning
+mod Staying
+mod Ending
+mod Instance
+mod Serving

@@ -9,9 +9,9 @@ use Rattle.vd_base.specs.Limits.{most_deal_bytes, most_host_file_bytes, most_inp
 use Rattle.vd_cmd.specs.declared.command.HostWords.{HostWords}
 use Rattle.vd_deal_versions.specs.declared.dealt.Dealt.{Dealt}
 use Rattle.vd_deal_versions.specs.Text.{Fit_by, IsDealtFile, IsDealtOf}
-use Rattle.vd_host_text.specs.declared.program.HostProgram.{HostProgram}
+use Rattle.vd_hostcode.specs.declared.host_text.program.HostProgram.{HostProgram}
 use Rattle.vd_hostcode.specs.Outcome.{CanRun, IsHeaded}
-use Rattle.vd_host_start.specs.Starts.{IsProgramRead}
+use Rattle.vd_host_session.specs.Starts.{IsProgramRead}
 use Rattle.vd_cmd_plan.specs.Held.{IsHeld}
 use Rattle.vd_cmd_plan.specs.Loads.{Loads}
 use Rattle.vd_cmd_plan.specs.Plans.{GrowsWithin, fetch_calls}
@@ -19,9 +19,9 @@ use Rattle.vd_cmd_plan.specs.declared.status.Status.{Status}
 use Rattle.vd_cmd_plan.specs.declared.status.Status.TheVariants.{ReadFault, Usage}
 use Rattle.vd_cmd_plan.proofs.Front.{front_within, later_within, more_within}
 use Rattle.vd_report.specs.InputsText.{GivesInputs}
-use Rattle.vd_deal_keys.specs.declared.secrets.Secrets.{Secrets}
+use Rattle.vd_channel_crypto.specs.declared.deal_keys.secrets.Secrets.{Secrets}
 use Rattle.vd_tape.specs.Text.{IsDealOf}
-use Rattle.vd_cmd_programs.specs.Programs.{IsProgramEnd}
+use Rattle.vd_cmd_plan.specs.Programs.{IsProgramEnd}
 use Rattle.vd_cmd_host.specs.Loading.{AreInputsOf, HasAddresses, HoldsProgram, HoldsInputs, IsCause, IsDealEnd, IsFileCause, IsInputsEnd, IsProgramOf, LoadsDeal, LoadsFile, LoadsHost, LoadsInputs, LoadsProgram, OfAddresses, OfDeal, OfInputs, OfProgram, files_of}
 use Rattle.vd_cmd_host.proofs.Files.{IsRead, deal_read, gives, inputs_read, program_read, refused}
 

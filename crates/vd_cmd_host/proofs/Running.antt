@@ -6,8 +6,8 @@ use Rattle.vd_cmd.specs.declared.command.HostWords.{HostWords}
 use Rattle.vd_engine.specs.declared.engine.Ended.{Ended}
 use Rattle.vd_host_session.specs.Plays.{Plays}
 use Rattle.vd_host_session.specs.declared.fault.HostFault.{HostFault}
-use Rattle.vd_host_start.specs.Starts.{CanPlay, Starts}
-use Rattle.vd_host_start.specs.declared.starting.Ready.{Ready}
+use Rattle.vd_host_session.specs.Starts.{CanPlay, Starts}
+use Rattle.vd_host_session.specs.declared.host_start.starting.Ready.{Ready}
 use Rattle.vd_cmd_host.specs.Hosts.{RanWell, RanWrong, RunsLoaded, within}
 use Rattle.vd_cmd_host.specs.Loading.{IsLoaded}
 use Rattle.vd_cmd_host.specs.Statuses.{PeersAreNamed, status_of}

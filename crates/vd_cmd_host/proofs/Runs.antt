@@ -6,14 +6,14 @@ use Rattle.vd_outside.specs.Files.{FilesView}
 use Rattle.vd_outside.specs.Net.{NetView}
 use Rattle.vd_outside.specs.Sink.{SinkView}
 use Rattle.vd_cmd.specs.declared.command.HostWords.{HostWords}
-use Rattle.vd_host_text.specs.declared.program.HostProgram.{HostProgram}
+use Rattle.vd_hostcode.specs.declared.host_text.program.HostProgram.{HostProgram}
 use Rattle.vd_host_session.specs.Laws.{AsksFrontOf, ComesBack, HasCause, calls_of}
 use Rattle.vd_host_session.specs.declared.fault.HostFault.{HostFault}
 use Rattle.vd_host_session.specs.declared.fault.HostFault.TheVariants as fault
 use Rattle.vd_host_session.specs.declared.task.Task.{Task}
 use Rattle.vd_host_session.proofs.Front.{in_order, causes, limit_stays, links_come_back}
-use Rattle.vd_host_start.specs.Starts.{Starts}
-use Rattle.vd_host_start.specs.declared.starting.Ready.{Ready}
+use Rattle.vd_host_session.specs.Starts.{Starts}
+use Rattle.vd_host_session.specs.declared.host_start.starting.Ready.{Ready}
 use Rattle.vd_cmd_plan.specs.declared.status.Status.{Status}
 use Rattle.vd_cmd_plan.specs.declared.status.HostStatus.TheVariants as host_status
 use Rattle.vd_cmd_plan.specs.declared.status.Status.TheVariants as status

@@ -3,19 +3,19 @@ use Rattle.std.specs.Prelude.{◌≡◌, ℕ, Bool, List, Option, Some, None, Ma
 use Rattle.vd_outside.specs.Files.{FilesView}
 use Rattle.vd_outside.specs.Net.{NetView}
 use Rattle.vd_outside.specs.Sink.{SinkView}
-use Rattle.vd_outside_marks.specs.Marks.{MarksView}
-use Rattle.vd_deal_keys.specs.declared.secrets.Secrets.{Secrets}
-use Rattle.vd_channel_net.specs.Ledgers.{has_sent}
-use Rattle.vd_channel_net.specs.Seals.{sealed_by}
-use Rattle.vd_channel_net.specs.Views.{sealing}
-use Rattle.vd_channel_net.specs.declared.ledger.Ledger.{Ledger}
-use Rattle.vd_channel_net.specs.declared.seal.Seal.{Seal}
+use Rattle.vd_outside.specs.Marks.{MarksView}
+use Rattle.vd_channel_crypto.specs.declared.deal_keys.secrets.Secrets.{Secrets}
+use Rattle.vd_channel_link.specs.Ledgers.{has_sent}
+use Rattle.vd_channel_link.specs.Seals.{sealed_by}
+use Rattle.vd_channel_link.specs.Views.{sealing}
+use Rattle.vd_channel_link.specs.declared.channel_net.ledger.Ledger.{Ledger}
+use Rattle.vd_channel_link.specs.declared.channel_net.seal.Seal.{Seal}
 use Rattle.vd_cmd.specs.declared.command.HostWords.{HostWords}
 use Rattle.vd_engine.specs.declared.engine.Ended.{Ended}
 use Rattle.vd_host_session.specs.Plays.{Plays}
 use Rattle.vd_host_session.specs.declared.fault.HostFault.{HostFault}
-use Rattle.vd_host_start.specs.Starts.{CanPlay, Starts}
-use Rattle.vd_host_start.specs.declared.starting.Ready.{Ready}
+use Rattle.vd_host_session.specs.Starts.{CanPlay, Starts}
+use Rattle.vd_host_session.specs.declared.host_start.starting.Ready.{Ready}
 use Rattle.vd_cmd_plan.specs.declared.status.Status.{Status}
 use Rattle.vd_cmd_plan.specs.declared.status.Status.TheVariants as status
 use Rattle.vd_cmd_host.specs.Loading.{IsLoaded, LoadsHost}

@@ -6,7 +6,7 @@ use Rattle.vd_outside.specs.Net.{NetView}
 use Rattle.vd_outside.specs.Sink.{SinkView}
 use Rattle.vd_outside.specs.declared.net.NetCall.{NetCall}
 use Rattle.vd_cmd.specs.declared.command.HostWords.{HostWords}
-use Rattle.vd_host_text.specs.declared.program.HostProgram.{HostProgram}
+use Rattle.vd_hostcode.specs.declared.host_text.program.HostProgram.{HostProgram}
 use Rattle.vd_host_session.specs.Laws.{AsksFrontOf, ComesBack, calls_of}
 use Rattle.vd_host_session.specs.declared.task.Task.{Task}
 use Rattle.vd_cmd_plan.specs.declared.status.HostStatus.TheVariants as host_status

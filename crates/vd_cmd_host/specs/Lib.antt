@@ -4,3 +4,5 @@ pub mod Loading
 pub mod Marking
 pub mod Once
 pub mod Statuses
+pub mod Instance
+pub mod Serving

@@ -7,15 +7,15 @@ use Rattle.vd_outside.specs.declared.faults.FetchFault.TheVariants as fetch_faul
 use Rattle.vd_outside.specs.declared.files.FilesCall.TheVariants.{Fetch}
 use Rattle.vd_cmd.specs.declared.command.HostWords.{HostWords}
 use Rattle.vd_deal_versions.specs.declared.dealt.Dealt.{Dealt}
-use Rattle.vd_host_start.specs.Starts.{IsProgramRead}
+use Rattle.vd_host_session.specs.Starts.{IsProgramRead}
 use Rattle.vd_hostcode.specs.Outcome.{IsOutcome}
-use Rattle.vd_host_text.specs.declared.program.HostProgram.{HostProgram}
+use Rattle.vd_hostcode.specs.declared.host_text.program.HostProgram.{HostProgram}
 use Rattle.vd_cmd_plan.specs.Held.{IsHeld}
 use Rattle.vd_cmd_plan.specs.Plans.{GrowsWithin, IsLast, fetch_calls}
 use Rattle.vd_cmd_plan.specs.declared.status.HostStatus.TheVariants as host_status
 use Rattle.vd_cmd_plan.specs.declared.status.Status.{Status}
 use Rattle.vd_cmd_plan.specs.declared.status.Status.TheVariants as status
-use Rattle.vd_cmd_programs.specs.Programs.{IsProgramEnd}
+use Rattle.vd_cmd_plan.specs.Programs.{IsProgramEnd}
 use Rattle.vd_report.specs.InputsText.{GivesInputs, IsInputsText}
 use Rattle.vd_report.specs.Outcome.{FirstWrong}
 use Rattle.vd_deal_versions.specs.Outcome.{IsFirstWrong}

@@ -6,12 +6,12 @@ use Rattle.vd_base_codec.specs.Reading.{field}
 use Rattle.vd_base_codec.specs.Digits.{key_text}
 use Rattle.vd_outside.specs.Causes.{Rose}
 use Rattle.vd_outside.specs.Files.{Contents, with_content}
-use Rattle.vd_outside_marks.specs.Marks.{MarksView, Releases, Stays}
-use Rattle.vd_outside_marks.specs.Places.{mark_at}
-use Rattle.vd_outside_marks.specs.declared.marks.MarksCall.{MarksCall}
-use Rattle.vd_outside_marks.specs.declared.marks.MarksCall.TheVariants.{Draw, Claim}
+use Rattle.vd_outside.specs.Marks.{MarksView, Releases, Stays}
+use Rattle.vd_outside.specs.Places.{mark_at}
+use Rattle.vd_outside.specs.declared.outside_marks.marks.MarksCall.{MarksCall}
+use Rattle.vd_outside.specs.declared.outside_marks.marks.MarksCall.TheVariants.{Draw, Claim}
 use Rattle.vd_cmd.specs.declared.command.HostWords.{HostWords}
-use Rattle.vd_host_text.specs.declared.program.HostProgram.{HostProgram}
+use Rattle.vd_hostcode.specs.declared.host_text.program.HostProgram.{HostProgram}
 use Rattle.vd_cmd_plan.specs.declared.status.Status.{Status}
 use Rattle.vd_cmd_plan.specs.declared.status.Status.TheVariants as status
 use Rattle.vd_cmd_host.specs.declared.marking.Claimed.{Claimed}

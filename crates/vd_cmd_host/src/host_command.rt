@@ -9,12 +9,11 @@ use crate::loading::{Loaded, load_host};
 use crate::marking::{claim, leave};
 use crate::playing::{run_plain, run_sealed, status_after};
 use std::alloc::{AllocError, Global};
-use vd_channel_net::SealedNet;
+use vd_channel_crypto::Secrets;
+use vd_channel_link::SealedNet;
 use vd_cmd::HostWords;
 use vd_cmd_plan::Status;
-use vd_deal_keys::Secrets;
-use vd_outside::{Files, Net, Sink};
-use vd_outside_marks::Marks;
+use vd_outside::{Files, Marks, Net, Sink};
 
 /// Runs a host whose deal is of version 2, over sealed links: its mark is taken first, and taken back where nothing went out that the
 /// deal masks.

@@ -1,6 +1,7 @@
 //! The command `host`: one host of a program runs over a net, from its files.
 #![tactic(auto)]
 
+mod cmd_host_laws;
 mod host_command;
 mod laws;
 mod loading;
@@ -8,6 +9,7 @@ mod marking;
 mod playing;
 mod statuses;
 
+pub use cmd_host_laws::{equal_words_are_enough, served_hosts_end_well};
 pub use host_command::host;
 pub use laws::{
     deals_are_used_once, hosts_ask_in_order, links_come_back, marks_are_apart,

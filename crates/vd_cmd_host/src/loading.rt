@@ -3,7 +3,7 @@
 ghost use Rattle.std.specs.Prelude.{◌≡◌, ◌≢◌, ◌<◌, ◌≤◌, ◌+◌, Some, length, slice_get, IfOk, IfErr, OnOk};
 ghost use Rattle.vd_base.specs.Limits.{most_hosts};
 ghost use Rattle.vd_cmd_host.specs.Loading.{IsDealEnd, IsInputsEnd, IsLoaded, LoadsDeal, LoadsHost, LoadsInputs, LoadsProgram};
-ghost use Rattle.vd_host_start.specs.Starts.{IsProgramRead};
+ghost use Rattle.vd_host_session.specs.Starts.{IsProgramRead};
 ghost use Rattle.vd_cmd_plan.specs.declared.status.Status.TheVariants.{Usage};
 ghost use Rattle.vd_report.specs.InputsText.{GivesInputs};
 ghost use Rattle.vd_deal_versions.specs.Text.{IsDealtFile, IsDealtOf};
@@ -12,10 +12,9 @@ use std::alloc::{AllocError, Global};
 use vd_base::limits::{DEAL_BYTES, HOST_FILE_BYTES, INPUTS_BYTES};
 use vd_base::{FileFault, HostId, Inputs, Name, Names, Words};
 use vd_cmd::HostWords;
-use vd_cmd_plan::{Status, input_status, load};
-use vd_cmd_programs::program_in;
+use vd_cmd_plan::{Status, input_status, load, program_in};
 use vd_deal_versions::{Dealt, read_dealt};
-use vd_host_text::HostProgram;
+use vd_hostcode::HostProgram;
 use vd_outside::Files;
 use vd_report::read_inputs;
 

@@ -9,8 +9,8 @@ use vd_base::{Bytes, CallFault, HostId, Text};
 use vd_base_codec::{push_field, push_key};
 use vd_cmd::HostWords;
 use vd_cmd_plan::Status;
-use vd_host_text::HostProgram;
-use vd_outside_marks::Marks;
+use vd_hostcode::HostProgram;
+use vd_outside::Marks;
 
 /// The name of the mark of a host's deal of this dealing.
 fn mark_name(alloc: Global, id: &[u8; 32], me: HostId) -> Result<Bytes, AllocError>

@@ -2,7 +2,7 @@
 
 ghost use Rattle.std.specs.Prelude.{◌≡◌, ◌≤◌, None, Ok, IfOk};
 ghost use Rattle.vd_outside.specs.Files.{FilesView};
-ghost use Rattle.vd_channel_net.specs.Views.{sealing};
+ghost use Rattle.vd_channel_link.specs.Views.{sealing};
 ghost use Rattle.vd_cmd_host.specs.Hosts.{IsSealedFor, PlainRuns, RunsLoaded, status_after};
 ghost use Rattle.vd_cmd_host.specs.Loading.{IsLoaded, LoadsHost};
 
@@ -10,13 +10,11 @@ use crate::loading::Loaded;
 use crate::marking::Claimed;
 use crate::statuses::status_of;
 use std::alloc::{AllocError, Global};
-use vd_base::{Name, Names, Text};
-use vd_base_lists::Items;
-use vd_channel_net::SealedNet;
+use vd_base::{Items, Name, Names, Text};
+use vd_channel_link::SealedNet;
 use vd_cmd::HostWords;
 use vd_cmd_plan::Status;
-use vd_host_session::play;
-use vd_host_start::{Ready, start};
+use vd_host_session::{Ready, play, start};
 use vd_outside::{Net, Sink};
 
 /// Copies of texts.

@@ -12,7 +12,7 @@ use Rattle.vd_constraints.specs.Outcomes.{HasNoLabelling, IsLabelled}
 use Rattle.vd_constraints.specs.declared.labels.Labels.{Labels}
 use Rattle.vd_constraints.specs.declared.origin.Origin.{Origin}
 use Rattle.vd_constraints.specs.declared.system.Check.{Check}
-use Rattle.vd_labels_least.proofs.Front.{labelling_of, labelling_is, labelled_once}
+use Rattle.vd_solver.proofs.Front.{labelling_of, labelling_is, labelled_once}
 use Rattle.vd_cmd_plan.specs.declared.status.FlowFault.{FlowFault}
 use Rattle.vd_cmd_plan.specs.declared.status.Status.TheVariants.{Flow}
 use Rattle.vd_cmd_labels.specs.Outcomes.{LabelOutcomes}

@@ -3,3 +3,8 @@ mod Reading
 mod Labelled
 mod InputLists
 mod HeldTexts
+mod Authorities
+mod Fitting
+mod Rights
+mod Walk
+mod Systems

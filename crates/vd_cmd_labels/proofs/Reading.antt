@@ -7,7 +7,7 @@ use Rattle.vd_parser.specs.Outcomes.{IsParse}
 use Rattle.vd_parser.specs.declared.fault.ParseFault.{ParseFault}
 use Rattle.vd_parser.specs.declared.fault.ParseFault.TheVariants as parse_fault
 use Rattle.vd_parser.proofs.Front.{parses_once, parses_somehow}
-use Rattle.vd_labels_least.proofs.Front.{labelling_of, labelling_is}
+use Rattle.vd_solver.proofs.Front.{labelling_of, labelling_is}
 use Rattle.vd_resolve.specs.Causes.{resolution_told}
 use Rattle.vd_resolve.specs.Faults.{Cause, bare, carried}
 use Rattle.vd_resolve.specs.Limits.{resolution}

@@ -3,7 +3,7 @@ use Rattle.std.specs.Prelude.{ℕ, true, List, [], Result, Ok, Err, slice_index_
 use Rattle.vd_outside.specs.Files.{FilesView, Contents}
 use Rattle.vd_core.specs.declared.source.Source.{Source}
 use Rattle.vd_core.specs.declared.normal.NormalForm.{NormalForm}
-use Rattle.vd_anf.specs.Normal.{normal_form}
+use Rattle.vd_elaborate.specs.Normal.{normal_form}
 use Rattle.vd_formula.specs.TruthTable.{any_of}
 use Rattle.vd_constraints.specs.Rules.{check, conf, system_of}
 use Rattle.vd_constraints.specs.Satisfies.{formula_at}

@@ -10,8 +10,7 @@ ghost use Rattle.vd_cmd_labels.specs.Labelling.{fault_of, labels_of, labels_text
 
 use crate::sources::load_source;
 use std::alloc::{AllocError, Global};
-use vd_base::{Name, Names};
-use vd_base_lists::Items;
+use vd_base::{Items, Name, Names};
 use vd_cmd_plan::{Answer, FlowFault, Status};
 use vd_constraints::{Check, Labels, Origin, constraints};
 use vd_core::{NormalForm, Program};

@@ -6,6 +6,7 @@ ghost use Rattle.vd_cmd_labels.specs.Outcomes.{TextOutcomes, LabelOutcomes};
 mod clear_command;
 mod inputs;
 mod labels_command;
+mod labels_systems;
 mod sources;
 
 pub use clear_command::clear;
@@ -18,3 +19,5 @@ pub fn outcomes_exist()
     ensures texts { TextOutcomes }
     ensures labels { LabelOutcomes }
 {}
+
+pub use labels_systems::{programs_have_systems, resolved_sources_have_systems};

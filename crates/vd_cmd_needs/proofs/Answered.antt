@@ -12,7 +12,7 @@ use Rattle.vd_cmd_plan.proofs.Front.{load_step}
 use Rattle.vd_cmd_labels.specs.Outcomes.{TextOutcomes, LabelOutcomes}
 use Rattle.vd_cmd_choice.specs.Searching.{Search, GaveUp, searched_by}
 use Rattle.vd_cmd_needs.specs.Needing.{ExecutesBytes, ExecutesHost, ExecutesText, bytes_plan, host_plan, is_program_text, needs_plan, text_plan}
-use Rattle.vd_cmd_programs.specs.Programs.{ProgramOutcomes}
+use Rattle.vd_cmd_plan.specs.Programs.{ProgramOutcomes}
 
 -- ---- with the bytes of a file
 

@@ -11,7 +11,7 @@ use Rattle.vd_cmd_choice.specs.Outcomes.{CertificateOutcomes}
 use Rattle.vd_cmd_choice.specs.Searching.{Searched, searched_by, sure_search}
 use Rattle.vd_cmd_choice.proofs.Front.{text_choice_follows}
 use Rattle.vd_cmd_needs.specs.Needing.{bytes_plan, host_plan, is_program_text, needs_answer, needs_plan, text_plan}
-use Rattle.vd_cmd_programs.specs.Programs.{ProgramOutcomes}
+use Rattle.vd_cmd_plan.specs.Programs.{ProgramOutcomes}
 
 either_follows : (b : Bool) (host sure plan : Contents → Plan) (files : Contents) → Follows (sure files) (plan files) → Follows ((if b then host else sure) files) ((if b then host else plan) files)
 either_follows true host sure plan files follows = λ e. inl e

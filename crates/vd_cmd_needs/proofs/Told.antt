@@ -10,14 +10,14 @@ use Rattle.vd_execution.specs.Code.{Code}
 use Rattle.vd_execution.specs.Joint.{Joint, IsTidy, code_of}
 use Rattle.vd_execution.specs.Step.{Source as Listed}
 use Rattle.vd_execution.specs.Text.{IsCodeOf}
-use Rattle.vd_deal_needs_laws.specs.Needs.{counts, takes}
-use Rattle.vd_deal_needs_laws.proofs.Front.{read_off}
+use Rattle.vd_deal_needs.specs.DealNeedsLawsNeeds.{counts, takes}
+use Rattle.vd_deal_needs.proofs.Front.{read_off}
 use Rattle.vd_deal_needs.specs.Counted.{code_in}
-use Rattle.vd_host_text.specs.declared.program.HostProgram.{HostProgram}
+use Rattle.vd_hostcode.specs.declared.host_text.program.HostProgram.{HostProgram}
 use Rattle.vd_hostcode.specs.Outcome.{CanRun, IsOutcome}
 use Rattle.vd_projection.specs.Programs.{CanRunAt}
-use Rattle.vd_deal_needs_programs.specs.Enough.{sizes_for}
-use Rattle.vd_deal_needs_programs.proofs.Front.{code_is, of_can_run, sizes_are_enough, sizes_are_least, deals_have_their_sizes}
+use Rattle.vd_deal_needs.specs.Enough.{sizes_for}
+use Rattle.vd_deal_needs.proofs.Front.{code_is, of_can_run, sizes_are_enough, sizes_are_least, deals_have_their_sizes}
 use Rattle.vd_cmd.specs.declared.command.NeedsWords.{NeedsWords}
 use Rattle.vd_search_stages.specs.declared.optimum.Assignment.{Assignment}
 use Rattle.vd_cmd_plan.specs.Labelled.{LabelledForm}

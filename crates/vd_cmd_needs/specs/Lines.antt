@@ -1,10 +1,10 @@
 -- What is printed of needs.
 use Rattle.std.specs.Prelude.{ℕ, nat_lt, if◌then◌else◌, Option, Some, None, List, [], ◌∷◌, ◌++◌, length, slice_get, slice_index_or, decimal, codes}
-use Rattle.vd_deal_items.specs.declared.deal.Counts.{Counts}
+use Rattle.vd_tape.specs.declared.deal_items.deal.Counts.{Counts}
 use Rattle.vd_deal_needs.specs.declared.taking.HostNeeds.{HostNeeds}
 use Rattle.vd_deal_needs.specs.declared.taking.Shared.{Shared}
 use Rattle.vd_deal_needs.specs.Sizes.{greater, nothing}
-use Rattle.vd_host_text.specs.declared.program.HostProgram.{HostProgram}
+use Rattle.vd_hostcode.specs.declared.host_text.program.HostProgram.{HostProgram}
 use Rattle.vd_report.specs.Lines.{number_field}
 use Rattle.vd_report.specs.ReportLines.{texts_below}
 use Rattle.vd_cmd_needs.specs.Needed.{needs_in}

@@ -18,8 +18,8 @@ use Rattle.vd_cmd_labels.specs.Sources.{source_of}
 use Rattle.vd_cmd_choice.specs.Searching.{Search, SomeSearch}
 use Rattle.vd_cmd_choice.specs.Choice.{Chosen, assigned_answer, text_choice_then}
 use Rattle.vd_cmd_needs.specs.Lines.{each_lines, program_lines, sizes_line}
-use Rattle.vd_deal_needs_programs.specs.Enough.{needs_for}
-use Rattle.vd_cmd_programs.specs.Programs.{ProgramOutcomes, program_in}
+use Rattle.vd_deal_needs.specs.Enough.{needs_for}
+use Rattle.vd_cmd_plan.specs.Programs.{ProgramOutcomes, program_in}
 
 -- ---- a source
 

@@ -9,9 +9,9 @@ use Rattle.vd_cmd_rewrite.specs.RunPrograms.{IsRunProgram}
 use Rattle.vd_execution.specs.Joint.{Joint, IsTidy, code_of}
 use Rattle.vd_execution.specs.Step.{Source as Listed}
 use Rattle.vd_execution.specs.Text.{IsCodeOf}
-use Rattle.vd_deal_needs_laws.specs.Needs.{counts, takes}
+use Rattle.vd_deal_needs.specs.DealNeedsLawsNeeds.{counts, takes}
 use Rattle.vd_deal_needs.specs.Counted.{code_in}
-use Rattle.vd_host_text.specs.declared.program.HostProgram.{HostProgram}
+use Rattle.vd_hostcode.specs.declared.host_text.program.HostProgram.{HostProgram}
 use Rattle.vd_hostcode.specs.Outcome.{IsOutcome}
 use Rattle.vd_cmd.specs.declared.command.NeedsWords.{NeedsWords}
 use Rattle.vd_cmd_plan.specs.Held.{Finds, IsHeld}
@@ -20,7 +20,7 @@ use Rattle.vd_cmd_plan.specs.declared.status.Status.{Status}
 use Rattle.vd_cmd_plan.specs.declared.status.Status.TheVariants.{Ended}
 use Rattle.vd_cmd_labels.specs.Sources.{IsSourceText}
 use Rattle.vd_cmd_choice.specs.Choice.{IsSelected}
-use Rattle.vd_deal_needs_programs.specs.Enough.{AreEnough, AreLeast, AreMade, sizes_for}
+use Rattle.vd_deal_needs.specs.Enough.{AreEnough, AreLeast, AreMade, sizes_for}
 use Rattle.vd_cmd_needs.specs.Lines.{program_lines}
 use Rattle.vd_cmd_needs.specs.Needing.{needs_text}
 

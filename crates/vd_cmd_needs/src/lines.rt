@@ -7,9 +7,9 @@ ghost use Rattle.vd_cmd_needs.specs.Lines as lines;
 use itoa::Buffer;
 use std::alloc::{AllocError, Global};
 use vd_base::{Bytes, Names};
-use vd_deal_items::Counts;
 use vd_deal_needs::{HostNeeds, Shared, greater};
 use vd_report::name_of;
+use vd_tape::Counts;
 
 /// What is shared where there is no such host.
 const NOTHING: Shared = Shared {

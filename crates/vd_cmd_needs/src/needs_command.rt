@@ -14,14 +14,12 @@ use crate::lines::{each_text, sizes_text};
 use crate::program::{is_program, needs_in_host};
 use std::alloc::{AllocError, Global};
 use vd_base::limits::{HOST_FILE_BYTES, SOURCE_BYTES};
-use vd_base::{Bytes, Proto, Text};
-use vd_base_lists::Items;
+use vd_base::{Bytes, Items, Proto, Text};
 use vd_cmd::NeedsWords;
 use vd_cmd_choice::{Choice, choice_of, no_assignment, program_of};
 use vd_cmd_plan::{Answer, Status, load};
 use vd_core::Program;
-use vd_deal_needs::sizes;
-use vd_deal_needs_programs::needs_of_program;
+use vd_deal_needs::{needs_of_program, sizes};
 use vd_outside::Files;
 use vd_search_stages::Assignment;
 

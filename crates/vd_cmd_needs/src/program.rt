@@ -11,10 +11,9 @@ ghost use Rattle.vd_cmd_needs.specs.Telling.{TellsHost};
 use crate::lines::host_text;
 use crate::needs_command::printing;
 use std::alloc::{AllocError, Global};
-use vd_cmd_plan::{Answer, Status};
-use vd_cmd_programs::program_in;
+use vd_cmd_plan::{Answer, Status, program_in};
 use vd_deal_needs::{HostNeeds, host_needs};
-use vd_host_text::HostProgram;
+use vd_hostcode::HostProgram;
 
 /// Whether the bytes begin as the program of a host does, and as no source does.
 pub(crate) fn is_program(bytes: &[u8]) -> bool

@@ -2,8 +2,8 @@
 use Rattle.std.proofs.Common.{◌≡◌, ℕ, List, ◌++◌, Result, subst, codes}
 use Rattle.std.specs.Fmt.{decimal}
 use Rattle.vd_outside.specs.Sink.{SinkView, WritesAll}
-use Rattle.vd_deal_items.specs.declared.deal.BadItem.{BadItem}
-use Rattle.vd_deal_items.specs.declared.deal.DealKind.{DealKind}
+use Rattle.vd_tape.specs.declared.deal_items.deal.BadItem.{BadItem}
+use Rattle.vd_tape.specs.declared.deal_items.deal.DealKind.{DealKind}
 use Rattle.vd_cmd_plan.specs.Shown.{shown}
 use Rattle.vd_cmd_plan.specs.Lines.{bad_deal_line, deal_line, kind_name, short_deal_line}
 

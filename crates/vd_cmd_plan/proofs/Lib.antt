@@ -13,3 +13,5 @@ mod DealLines
 mod Finding
 mod ShownNames
 mod Telling
+mod Existing
+mod Reading

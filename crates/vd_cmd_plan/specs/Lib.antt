@@ -9,3 +9,4 @@ pub mod Refusals
 pub mod Numbered
 pub mod Shown
 pub mod Words
+pub mod Programs

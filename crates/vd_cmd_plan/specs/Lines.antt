@@ -13,9 +13,9 @@ use Rattle.vd_bound.specs.declared.checking.CheckFault.TheVariants as check_faul
 use Rattle.vd_report.specs.ChoiceLines.{host_name}
 use Rattle.vd_report.specs.declared.fault.ReadFault.{ReadFault as TextFault}
 use Rattle.vd_report.specs.declared.fault.ReadFault.TheVariants as read_fault
-use Rattle.vd_deal_items.specs.declared.deal.BadItem.{BadItem}
-use Rattle.vd_deal_items.specs.declared.deal.DealKind.{DealKind}
-use Rattle.vd_deal_items.specs.declared.deal.DealKind.TheVariants as deal_kind
+use Rattle.vd_tape.specs.declared.deal_items.deal.BadItem.{BadItem}
+use Rattle.vd_tape.specs.declared.deal_items.deal.DealKind.{DealKind}
+use Rattle.vd_tape.specs.declared.deal_items.deal.DealKind.TheVariants as deal_kind
 use Rattle.vd_resolve.specs.declared.fault.Quantity.{Quantity}
 use Rattle.vd_resolve.specs.declared.fault.Quantity.TheVariants as quantity
 use Rattle.vd_resolve.specs.declared.fault.NameFault.{NameFault}

@@ -1,8 +1,7 @@
 //! What a command comes to.
 
 use crate::Status;
-use vd_base::Bytes;
-use vd_base_lists::Items;
+use vd_base::{Bytes, Items};
 use vd_outside::Stored;
 
 /// What a command comes to: its status, the files that it stores first, and what it prints.

@@ -8,8 +8,8 @@ use crate::deliver::write_parts;
 use crate::lines::{kind_name, write_name, write_offset};
 use itoa::Buffer;
 use vd_base::Failed;
-use vd_deal_items::DealKind;
 use vd_outside::Sink;
+use vd_tape::DealKind;
 
 /// Writes the line of a host that did not run to its end.
 pub(crate) fn write_host_status<E: Sink>(err: &mut E, status: &HostStatus) -> Result<(), Failed>

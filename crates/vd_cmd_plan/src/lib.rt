@@ -2,6 +2,7 @@
 #![tactic(auto)]
 
 mod answer;
+mod cmd_programs;
 mod codes;
 mod deliver;
 mod ending;
@@ -15,6 +16,7 @@ mod shown;
 mod status;
 
 pub use answer::Answer;
+pub use cmd_programs::{program_in, program_outcomes_exist};
 pub use codes::codes_tell_statuses;
 pub use deliver::store_all;
 pub use ending::{finish, print_text};

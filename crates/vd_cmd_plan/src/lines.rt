@@ -14,12 +14,12 @@ use itoa::Buffer;
 use std::alloc::Global;
 use vd_base::{Failed, HostId, Names};
 use vd_bound::CheckFault;
-use vd_deal_items::{BadItem, DealKind};
 use vd_host_children::ChildrenFault;
 use vd_outside::{Recorder, Sink, write_all};
 use vd_parser::ParseFault;
 use vd_report::{ReadFault, name_of};
 use vd_resolve::{NameFault, Quantity};
+use vd_tape::{BadItem, DealKind};
 
 /// The most bytes of a line that is put together before it is written: as many as a pipe takes whole.
 const LINE_BYTES: usize = 4_096;

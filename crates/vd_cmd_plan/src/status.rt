@@ -9,12 +9,12 @@ use std::alloc::AllocError;
 use vd_base::{Name, Names, Text};
 use vd_bound::CheckFault;
 use vd_constraints::{Check, Origin};
-use vd_deal_items::{BadItem, DealKind};
 use vd_formula::Formula;
 use vd_host_children::ChildrenFault;
 use vd_parser::ParseFault;
 use vd_report::ReadFault;
 use vd_resolve::NameFault;
+use vd_tape::{BadItem, DealKind};
 
 /// Why no labelling satisfies the flow rules of a program, and what a person is told of it.
 #[derive(Debug, Drop)]

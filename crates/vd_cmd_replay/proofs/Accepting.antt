@@ -8,16 +8,16 @@ use Rattle.vd_core.specs.declared.normal.NormalForm.{NormalForm}
 use Rattle.vd_core.specs.declared.source.Source.{Source}
 use Rattle.vd_core.specs.Facts.{IsWellMade}
 use Rattle.vd_parser.proofs.Front.{names_are_names}
-use Rattle.vd_anf_wellformed.proofs.Front.{well_made}
-use Rattle.vd_anf.specs.Normal.{normal_form}
+use Rattle.vd_elaborate.proofs.Front.{well_made}
+use Rattle.vd_elaborate.specs.Normal.{normal_form}
 use Rattle.vd_cmd_rewrite.proofs.Front.{run_once, run_well_made}
 use Rattle.vd_cmd.specs.declared.command.ReplayWords.{ReplayWords}
 use Rattle.vd_constraints.specs.Rules.{system_of}
 use Rattle.vd_constraints.specs.declared.labels.Labels.{Labels}
-use Rattle.vd_labels_least.proofs.Front.{system_or_not}
-use Rattle.vd_deal_items.specs.Validity.{AreDeals}
-use Rattle.vd_deal_items.specs.declared.deal.Deal.{Deal}
-use Rattle.vd_deal_keys.specs.declared.secrets.Secrets.{Secrets}
+use Rattle.vd_solver.proofs.Front.{system_or_not}
+use Rattle.vd_tape.specs.Validity.{AreDeals}
+use Rattle.vd_tape.specs.declared.deal_items.deal.Deal.{Deal}
+use Rattle.vd_channel_crypto.specs.declared.deal_keys.secrets.Secrets.{Secrets}
 use Rattle.vd_tape.specs.Text.{AreDealsOf, IsDealOf}
 use Rattle.vd_tape.proofs.Front.{all_deals}
 use Rattle.vd_deal_versions.specs.Text.{Fit_by}
@@ -25,7 +25,7 @@ use Rattle.vd_space.specs.declared.problem.Problem.{Problem}
 use Rattle.vd_space.specs.Reading.{problem_of}
 use Rattle.vd_space.proofs.Front.{is_problem}
 use Rattle.vd_space.specs.Usual.{firm}
-use Rattle.vd_space_optimum.proofs.Front.{back, places_cheapest}
+use Rattle.vd_space.proofs.Front.{back, places_cheapest}
 use Rattle.vd_search_stages.specs.Choices.{ChoiceOutcomes, IsChosen, needed}
 use Rattle.vd_search_stages.specs.Optimum.{assigned, assignment_of}
 use Rattle.vd_search_stages.specs.declared.optimum.Assignment.{Assignment}
@@ -35,7 +35,7 @@ use Rattle.vd_cmd_choice.specs.Choice.{Chosen, as_searched, chosen_by, search_th
 use Rattle.vd_cmd_choice.specs.Searching.{sure_search}
 use Rattle.vd_cmd_plan.specs.Labelled.{labelled_form}
 use Rattle.vd_cmd_plan.specs.Plans.{Plan}
-use Rattle.vd_report_laws.proofs.Front.{judged_once}
+use Rattle.vd_cmd_files.proofs.Front.{judged_once}
 use Rattle.vd_cmd_replay.specs.Accepting.{EndsWell, IsAccepted}
 use Rattle.vd_cmd_files.specs.Asking.{HoldAsked}
 use Rattle.vd_cmd_files.specs.Deals.{as_consistent}

@@ -9,7 +9,7 @@ use Rattle.vd_core.specs.declared.normal.NormalForm.{NormalForm}
 use Rattle.vd_core.specs.Facts.{IsWellMade}
 use Rattle.vd_semantics.specs.ProgramMeaning.{program_outputs}
 use Rattle.vd_core.specs.Numbers.{NumbersFit}
-use Rattle.vd_deal_items.specs.Validity.{AreDeals, IsConsistent}
+use Rattle.vd_tape.specs.Validity.{AreDeals, IsConsistent}
 use Rattle.vd_tape.specs.Text.{AreDealsOf}
 use Rattle.vd_tape.proofs.Front.{all_deals}
 use Rattle.vd_execution.specs.declared.instructions.Instr.{Instr}
@@ -17,7 +17,7 @@ use Rattle.vd_execution.specs.Joint.{Joint, code_of, started}
 use Rattle.vd_execution.specs.Ranges.{IsInRange}
 use Rattle.vd_execution.specs.Text.{IsCodeOf, text}
 use Rattle.vd_execution.specs.World.{World, Supply}
-use Rattle.vd_execution_confluence.specs.Claims.{IsOf}
+use Rattle.vd_execution.specs.Claims.{IsOf}
 use Rattle.vd_backend_laws.specs.Given.{zero_deal}
 use Rattle.vd_backend_laws.specs.Whole.{inputs_of}
 use Rattle.vd_backend_laws.proofs.Front.{zero_deals_are_valid}
@@ -28,12 +28,12 @@ use Rattle.vd_cmd_plan.specs.Plans.{Computes, ended}
 use Rattle.vd_cmd_plan.specs.declared.answer.Answer.{Answer}
 use Rattle.vd_cmd_plan.specs.declared.status.Status.{Status}
 use Rattle.vd_world.specs.Packets.{counted, packets_of}
-use Rattle.vd_world_report.specs.Loading.{AreCodesOf, AreForAll}
-use Rattle.vd_world_report.specs.Reports.{report_of}
-use Rattle.vd_world_report.specs.Schedules.{replayed}
-use Rattle.vd_world_report.specs.Supplies.{AreFiles, supply_of_files}
-use Rattle.vd_world_report.specs.Told.{TellsUnder}
-use Rattle.vd_world_report.proofs.Front.{programs_tell}
+use Rattle.vd_world.specs.Loading.{AreCodesOf, AreForAll}
+use Rattle.vd_world.specs.Reports.{report_of}
+use Rattle.vd_world.specs.Schedules.{replayed}
+use Rattle.vd_world.specs.Supplies.{AreFiles, supply_of_files}
+use Rattle.vd_world.specs.Told.{TellsUnder}
+use Rattle.vd_world.proofs.Front.{programs_tell}
 use Rattle.vd_cmd_choice.specs.Choice.{IsSelected}
 use Rattle.vd_cmd_compile.proofs.Front.{code_count, runnable_of, covered, stored_for}
 use Rattle.vd_cmd_files.specs.declared.asked.Asked.{Asked}

@@ -11,7 +11,7 @@ use Rattle.vd_cmd_plan.specs.declared.status.Status.TheVariants.{Ended, NoAssign
 use Rattle.vd_cmd_plan.proofs.Front.{answers, check_step}
 use Rattle.vd_cmd_choice.specs.Choice.{Chooses, no_list}
 use Rattle.vd_cmd_choice.specs.declared.choice.Choice.{Choice}
-use Rattle.vd_report_laws.specs.Outcomes.{ReplayOutcomes}
+use Rattle.vd_cmd_files.specs.Outcomes.{ReplayOutcomes}
 use Rattle.vd_cmd_files.specs.declared.asked.Asked.{Asked}
 use Rattle.vd_cmd_files.specs.Deals.{as_consistent}
 use Rattle.vd_cmd_replay.specs.Replaying.{ExecutesAsked, ExecutesChoice, choice_plan, report_for}

@@ -6,7 +6,7 @@ use Rattle.vd_base.specs.Limits.{most_deal_bytes, most_hosts, most_inputs_bytes,
 use Rattle.vd_outside.specs.Files.{Contents, fetched}
 use Rattle.vd_core.specs.declared.normal.NormalForm.{NormalForm}
 use Rattle.vd_core.specs.declared.source.Source.{Source}
-use Rattle.vd_anf.specs.Normal.{normal_form}
+use Rattle.vd_elaborate.specs.Normal.{normal_form}
 use Rattle.vd_cmd_rewrite.specs.RunPrograms.{run_form}
 use Rattle.vd_parser.proofs.Front.{parses_once}
 use Rattle.vd_cmd.specs.declared.command.ReplayWords.{ReplayWords}
@@ -14,8 +14,8 @@ use Rattle.vd_constraints.specs.Outcomes.{IsLabelled}
 use Rattle.vd_constraints.specs.Satisfies.{IsLeast}
 use Rattle.vd_constraints.specs.Systems.{Constraints, IsSystem}
 use Rattle.vd_constraints.specs.declared.labels.Labels.{Labels}
-use Rattle.vd_labels_least.proofs.Front.{system_or_not, labelled_once, labelled_somehow}
-use Rattle.vd_deal_items.specs.declared.deal.Deal.{Deal}
+use Rattle.vd_solver.proofs.Front.{system_or_not, labelled_once, labelled_somehow}
+use Rattle.vd_tape.specs.declared.deal_items.deal.Deal.{Deal}
 use Rattle.vd_deal_versions.specs.Plain.{IsDealIn}
 use Rattle.vd_report.specs.Inputs.{inputs_read}
 use Rattle.vd_report.specs.InputsText.{GivesInputs}
@@ -33,8 +33,8 @@ use Rattle.vd_cmd_labels.specs.Sources.{HoldsSource, IsSourceText, as_resolved, 
 use Rattle.vd_cmd_labels.proofs.Front.{solution_is, solution_of}
 use Rattle.vd_cmd_choice.specs.Programs.{program_then}
 use Rattle.vd_cmd_labels.specs.Inputs.{HoldsInputs, as_inputs, inputs_then, words_of}
-use Rattle.vd_report_laws.specs.Outcomes.{ReplayOutcomes}
-use Rattle.vd_report_laws.proofs.Front.{outcomes_are_single}
+use Rattle.vd_cmd_files.specs.Outcomes.{ReplayOutcomes}
+use Rattle.vd_cmd_files.proofs.Front.{outcomes_are_single}
 use Rattle.vd_cmd_files.specs.declared.asked.Asked.{Asked}
 use Rattle.vd_cmd_files.specs.Asking.{HoldAsked, asked_of, asked_then}
 use Rattle.vd_cmd_files.specs.Deals.{HoldsDeal, as_deal, deal_of, deal_then, deals_from}

@@ -3,7 +3,7 @@ use Rattle.std.proofs.Common.{ℕ, ◌+◌, List, [], ◌∷◌, ◌++◌, lengt
 use Rattle.vd_base.specs.Limits.{most_deal_bytes, most_inputs_bytes, most_schedule_bytes}
 use Rattle.vd_outside.specs.Files.{Contents}
 use Rattle.vd_core.specs.declared.normal.NormalForm.{NormalForm}
-use Rattle.vd_deal_items.specs.declared.deal.Deal.{Deal}
+use Rattle.vd_tape.specs.declared.deal_items.deal.Deal.{Deal}
 use Rattle.vd_cmd.specs.declared.command.ReplayWords.{ReplayWords}
 use Rattle.vd_report.specs.declared.schedule.Schedule.{Schedule}
 use Rattle.vd_search_stages.specs.Choices.{ChoiceOutcomes}
@@ -16,7 +16,7 @@ use Rattle.vd_cmd_labels.specs.Inputs.{words_of, inputs_then}
 use Rattle.vd_cmd_choice.specs.Outcomes.{CertificateOutcomes}
 use Rattle.vd_cmd_choice.specs.Searching.{Searched, searched_by, sure_search}
 use Rattle.vd_cmd_choice.proofs.Front.{choice_follows, program_follows}
-use Rattle.vd_report_laws.specs.Outcomes.{ReplayOutcomes}
+use Rattle.vd_cmd_files.specs.Outcomes.{ReplayOutcomes}
 use Rattle.vd_cmd_files.specs.declared.asked.Asked.{Asked}
 use Rattle.vd_cmd_files.specs.Asking.{asked_of}
 use Rattle.vd_cmd_files.specs.Deals.{deal_of, deal_then, deals_from}

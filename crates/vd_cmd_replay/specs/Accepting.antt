@@ -4,7 +4,7 @@ use Rattle.vd_outside.specs.Files.{Contents}
 use Rattle.vd_core.specs.declared.normal.NormalForm.{NormalForm}
 use Rattle.vd_cmd_rewrite.specs.RunPrograms.{IsRunProgram}
 use Rattle.vd_cmd.specs.declared.command.ReplayWords.{ReplayWords}
-use Rattle.vd_deal_items.specs.Validity.{IsConsistent}
+use Rattle.vd_tape.specs.Validity.{IsConsistent}
 use Rattle.vd_space.specs.Reading.{problem_of}
 use Rattle.vd_space.specs.Usual.{firm}
 use Rattle.vd_search_stages.specs.Choices.{ChoiceOutcomes}
@@ -13,7 +13,7 @@ use Rattle.vd_cmd_labels.specs.Outcomes.{TextOutcomes, LabelOutcomes}
 use Rattle.vd_cmd_choice.specs.Searching.{sure_search}
 use Rattle.vd_cmd_plan.specs.declared.status.Status.TheVariants.{Ended}
 use Rattle.vd_cmd_choice.specs.Choice.{IsSelected}
-use Rattle.vd_report_laws.specs.Outcomes.{ReplayOutcomes}
+use Rattle.vd_cmd_files.specs.Outcomes.{ReplayOutcomes}
 use Rattle.vd_cmd_replay.specs.Replaying.{replay_plan}
 use Rattle.vd_cmd_replay.specs.Telling.{HoldReplay}
 

@@ -9,9 +9,9 @@ use Rattle.vd_execution.specs.World.{World}
 use Rattle.vd_search_stages.specs.Choices.{ChoiceOutcomes}
 use Rattle.vd_search_stages.specs.declared.optimum.Assignment.{Assignment}
 use Rattle.vd_projection.specs.Programs.{joint_of}
-use Rattle.vd_world_report.specs.Supplies.{supply_of_files}
-use Rattle.vd_world_report.specs.Schedules.{replayed}
-use Rattle.vd_world_report.specs.Reports.{report_of}
+use Rattle.vd_world.specs.Supplies.{supply_of_files}
+use Rattle.vd_world.specs.Schedules.{replayed}
+use Rattle.vd_world.specs.Reports.{report_of}
 use Rattle.vd_cmd_plan.specs.Labelled.{LabelledForm, labelled_form}
 use Rattle.vd_cmd_plan.specs.Plans.{Plan, Executes, check_then, answer_then, ended}
 use Rattle.vd_cmd_plan.specs.declared.answer.Answer.{Answer}
@@ -20,7 +20,7 @@ use Rattle.vd_cmd_labels.specs.Outcomes.{TextOutcomes, LabelOutcomes}
 use Rattle.vd_cmd_choice.specs.Programs.{program_then}
 use Rattle.vd_cmd_choice.specs.Searching.{Search, SomeSearch}
 use Rattle.vd_cmd_choice.specs.Choice.{choice_of_then, no_list}
-use Rattle.vd_report_laws.specs.Outcomes.{ReplayOutcomes}
+use Rattle.vd_cmd_files.specs.Outcomes.{ReplayOutcomes}
 use Rattle.vd_cmd_files.specs.declared.asked.Asked.{Asked}
 use Rattle.vd_cmd_files.specs.Asking.{asked_then}
 use Rattle.vd_cmd_files.specs.Deals.{as_consistent}

@@ -8,17 +8,17 @@ use Rattle.vd_semantics.specs.SourceMeaning.{host_names, source_outputs}
 use Rattle.vd_search_stages.specs.declared.optimum.Assignment.{Assignment}
 use Rattle.vd_cmd_rewrite.specs.RunPrograms.{IsRunProgram}
 use Rattle.vd_cmd.specs.declared.command.ReplayWords.{ReplayWords}
-use Rattle.vd_deal_items.specs.Validity.{IsConsistent}
+use Rattle.vd_tape.specs.Validity.{IsConsistent}
 use Rattle.vd_execution.specs.declared.instructions.Instr.{Instr}
 use Rattle.vd_execution.specs.Joint.{Joint, code_of, started}
 use Rattle.vd_execution.specs.Text.{text}
 use Rattle.vd_projection.specs.Programs.{joint_of}
-use Rattle.vd_world_report.specs.Loading.{AreCodesOf}
-use Rattle.vd_world_report.specs.Reports.{report_of}
-use Rattle.vd_world_report.specs.Schedules.{replayed}
+use Rattle.vd_world.specs.Loading.{AreCodesOf}
+use Rattle.vd_world.specs.Reports.{report_of}
+use Rattle.vd_world.specs.Schedules.{replayed}
 use Rattle.vd_base.specs.Words.{InputsAreWords}
-use Rattle.vd_world_report.specs.Supplies.{supply_of_files}
-use Rattle.vd_world_report.specs.Told.{TellsUnder}
+use Rattle.vd_world.specs.Supplies.{supply_of_files}
+use Rattle.vd_world.specs.Told.{TellsUnder}
 use Rattle.vd_cmd_plan.specs.Held.{Finds}
 use Rattle.vd_cmd_plan.specs.declared.answer.Answer.{Answer}
 use Rattle.vd_cmd_plan.specs.declared.status.Status.{Status}

@@ -2,7 +2,7 @@
 
 ghost use Rattle.std.specs.Prelude.{◌≡◌, ◌≤◌, [], Some, length, IfOk, OnOk};
 ghost use Rattle.vd_base.specs.Limits.{most_search_budget};
-ghost use Rattle.vd_deal_items.specs.Validity.{IsConsistent};
+ghost use Rattle.vd_tape.specs.Validity.{IsConsistent};
 ghost use Rattle.vd_semantics.specs.ProgramMeaning.{program_outputs};
 ghost use Rattle.vd_cmd_plan.specs.Plans.{Computes, ended};
 ghost use Rattle.vd_cmd_choice.specs.Choice.{IsSelected};
@@ -12,8 +12,7 @@ ghost use Rattle.vd_cmd_replay.specs.Replaying.{ExecutesAsked, ExecutesChoice, E
 ghost use Rattle.vd_cmd_replay.specs.Telling.{IsReport, TellsHeadline, TellsOf, TellsProgram};
 
 use std::alloc::Global;
-use vd_base::Bytes;
-use vd_base_lists::Items;
+use vd_base::{Bytes, Items};
 use vd_cmd::ReplayWords;
 use vd_cmd_choice::{choice_of, load_program, no_assignment};
 use vd_cmd_files::{Asked, expect_consistent, load_asked};
@@ -22,7 +21,7 @@ use vd_core::Program;
 use vd_outside::Files;
 use vd_projection::split;
 use vd_search_stages::Assignment;
-use vd_world_report::{play, report};
+use vd_world::{play, report};
 
 /// The answer that prints this and stores nothing.
 fn printing(alloc: Global, printed: Bytes) -> Answer

@@ -4,9 +4,9 @@ use Rattle.vd_base.specs.declared.ids.SlotId.{SlotId}
 use Rattle.vd_core.specs.declared.normal.NormalForm.{NormalForm}
 use Rattle.vd_core.specs.declared.source.Source.{Source}
 use Rattle.vd_core.specs.Facts.{IsWellMade}
-use Rattle.vd_anf.specs.Normal.{normal_form}
+use Rattle.vd_elaborate.specs.Normal.{normal_form}
 use Rattle.vd_constraints.specs.declared.labels.Labels.{Labels}
-use Rattle.vd_labels_systems.proofs.Front.{program_system}
+use Rattle.vd_cmd_labels.proofs.Front.{program_system}
 use Rattle.vd_space.specs.Reading.{problem_of}
 use Rattle.vd_rewrite.specs.Rewriting.{marked}
 use Rattle.vd_mux.specs.BooleanGuards.{has_boolean_guards}

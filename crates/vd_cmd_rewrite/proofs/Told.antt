@@ -6,8 +6,8 @@ use Rattle.vd_core.specs.declared.source.Source.{Source}
 use Rattle.vd_core.specs.Facts.{IsWellMade}
 use Rattle.vd_semantics.specs.ProgramMeaning.{program_outputs}
 use Rattle.vd_semantics.specs.SourceMeaning.{source_outputs}
-use Rattle.vd_anf.specs.Normal.{normal_form}
-use Rattle.vd_anf.proofs.Front.{outputs_kept}
+use Rattle.vd_elaborate.specs.Normal.{normal_form}
+use Rattle.vd_elaborate.proofs.Front.{outputs_kept}
 use Rattle.vd_constraints.specs.declared.labels.Labels.{Labels}
 use Rattle.vd_space.specs.Reading.{problem_of}
 use Rattle.vd_rewrite.specs.Rewriting.{marked, is_within}

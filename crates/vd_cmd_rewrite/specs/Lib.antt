@@ -1,2 +1,4 @@
 pub mod Plain
 pub mod RunPrograms
+pub mod Unchanged
+pub mod TurnedLabels

@@ -5,7 +5,7 @@ use Rattle.vd_core.specs.declared.source.Source.{Source}
 use Rattle.vd_core.specs.declared.normal.NormalForm.{NormalForm}
 use Rattle.vd_semantics.specs.ProgramMeaning.{program_outputs}
 use Rattle.vd_semantics.specs.SourceMeaning.{source_outputs}
-use Rattle.vd_anf.specs.Normal.{normal_form}
+use Rattle.vd_elaborate.specs.Normal.{normal_form}
 use Rattle.vd_constraints.specs.Rules.{system_of}
 use Rattle.vd_constraints.specs.Satisfies.{IsLeast, Satisfies}
 use Rattle.vd_constraints.specs.declared.labels.Labels.{Labels}

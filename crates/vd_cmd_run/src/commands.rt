@@ -4,8 +4,7 @@ ghost use Rattle.std.specs.Prelude.{◌≡◌, ◌≤◌, ◌++◌, IfOk, OnOk, 
 ghost use Rattle.vd_cmd_run.specs.CommandLines.{address, command_lines, file_words, host_words, meeting, meetings};
 
 use std::alloc::{AllocError, Global};
-use vd_base::{Text, Texts};
-use vd_base_lists::Items;
+use vd_base::{Items, Text, Texts};
 use vd_cmd_plan::file_name;
 
 /// Where two hosts meet on this machine: each pair has a port of its own behind the first.

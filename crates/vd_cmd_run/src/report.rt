@@ -4,8 +4,7 @@ ghost use Rattle.std.specs.Prelude.{◌≡◌, IfOk, map};
 ghost use Rattle.vd_cmd_run.specs.EndedLines.{ended_line, ended_lines};
 
 use std::alloc::{AllocError, Global};
-use vd_base::{Bytes, HostState, Names, Words};
-use vd_base_lists::Items;
+use vd_base::{Bytes, HostState, Items, Names, Words};
 use vd_report::{HostLine, HostLines, hosts_text};
 
 /// Each of these lists of words as that of a host that has ended.

@@ -4,7 +4,7 @@ use Rattle.std.specs.Prelude.{nat_lt}
 use Rattle.vd_base.specs.Limits.{most_search_budget}
 use Rattle.vd_outside.specs.Files.{FilesView, Contents}
 use Rattle.vd_core.specs.declared.normal.NormalForm.{NormalForm}
-use Rattle.vd_anf.specs.Normal.{normal_form}
+use Rattle.vd_elaborate.specs.Normal.{normal_form}
 use Rattle.vd_constraints.specs.Rules.{system_of}
 use Rattle.vd_constraints.specs.declared.labels.Labels.{Labels}
 use Rattle.vd_gen.specs.Sizes.{most_coordinates}
@@ -25,7 +25,7 @@ use Rattle.vd_cmd_labels.specs.Labelling.{as_labels, labels_of}
 use Rattle.vd_cmd_labels.specs.Outcomes.{TextOutcomes, LabelOutcomes}
 use Rattle.vd_cmd_labels.specs.Sources.{source_of, resolved_of}
 use Rattle.vd_cmd_labels.proofs.Front.{some_labels, some_texts}
-use Rattle.vd_cmd_trial_laws.proofs.Front.{is_read}
+use Rattle.vd_cmd_choose.proofs.Front.{is_read}
 use Rattle.vd_cmd_choice.specs.Choice.{Chosen, as_searched, chosen_by, search_then}
 use Rattle.vd_cmd_choice.specs.Searching.{Searched, GaveUp, Certified, is_accepted, searched_by}
 use Rattle.vd_cmd_choice.specs.Outcomes.{CertificateOutcomes}

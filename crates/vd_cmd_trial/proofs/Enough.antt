@@ -7,22 +7,22 @@ use Rattle.vd_base.specs.Limits.{most_deal_items}
 use Rattle.vd_core.specs.declared.normal.NormalForm.{NormalForm}
 use Rattle.vd_core.specs.Facts.{IsWellMade, weight_sum}
 use Rattle.vd_core.specs.Numbers.{NumbersFit}
-use Rattle.vd_deal_items.specs.Validity.{IsConsistent}
+use Rattle.vd_tape.specs.Validity.{IsConsistent}
 use Rattle.vd_tape.specs.Made.{AreCounts, number_key}
 use Rattle.vd_tape.specs.Text.{AreDealsOf}
 use Rattle.vd_execution.specs.Code.{Code}
 use Rattle.vd_execution.specs.Step.{Inputs}
 use Rattle.vd_backend_laws.specs.Whole.{inputs_of}
-use Rattle.vd_deal_needs_laws.specs.Needs.{counts}
+use Rattle.vd_deal_needs.specs.DealNeedsLawsNeeds.{counts}
 use Rattle.vd_deal_needs.specs.declared.taking.HostNeeds.{HostNeeds}
 use Rattle.vd_deal_needs.proofs.Front.{above, below}
 use Rattle.vd_projection.specs.Programs.{CanRunAt, joint_of}
 use Rattle.vd_projection.proofs.Front.{ended_past}
-use Rattle.vd_world_report.specs.Supplies.{AreFiles}
-use Rattle.vd_deal_needs_programs.specs.Enough.{HandInEnough, needs_for, sizes_for}
-use Rattle.vd_deal_needs_programs.proofs.Front.{sizes_are_enough, deals_have_their_sizes, count_needs, counted, needs_at, taken}
-use Rattle.vd_deal_needs_limits.specs.Items.{most_executed}
-use Rattle.vd_deal_needs_limits.proofs.Front.{small_programs_can_be_dealt, within}
+use Rattle.vd_world.specs.Supplies.{AreFiles}
+use Rattle.vd_deal_needs.specs.Enough.{HandInEnough, needs_for, sizes_for}
+use Rattle.vd_deal_needs.proofs.Front.{sizes_are_enough, deals_have_their_sizes, count_needs, counted, needs_at, taken}
+use Rattle.vd_deal_needs.specs.Items.{most_executed}
+use Rattle.vd_deal_needs.proofs.Front.{small_programs_can_be_dealt, within}
 use Rattle.vd_search_stages.specs.declared.optimum.Assignment.{Assignment}
 use Rattle.vd_cmd_choice.specs.Choice.{IsSelected}
 use Rattle.vd_cmd_compile.proofs.Front.{runnable_of}

@@ -5,8 +5,8 @@ use Rattle.std.proofs.lemmas.Bool.{cases_lt}
 use Rattle.std.proofs.lemmas.List.{get_or_past}
 use Rattle.std.proofs.lemmas.List.Elements.{All-get_or}
 use Rattle.std.proofs.lemmas.List.FromFn.{length-map-range_with_len}
-use Rattle.vd_deal_items.specs.declared.deal.Deal.{Deal}
-use Rattle.vd_deal_items.specs.Validity.{AreDeals}
+use Rattle.vd_tape.specs.declared.deal_items.deal.Deal.{Deal}
+use Rattle.vd_tape.specs.Validity.{AreDeals}
 use Rattle.vd_tape.specs.Made.{first_of, made_deals}
 use Rattle.vd_tape.proofs.Front.{all_first, count_of_deals, deals_of}
 use Rattle.vd_deal_needs.specs.declared.taking.HostNeeds.{HostNeeds}

@@ -3,7 +3,7 @@ use Rattle.std.proofs.Common.{ℕ, [], refl}
 use Rattle.vd_base.specs.Limits.{most_search_budget}
 use Rattle.vd_outside.specs.Files.{Contents}
 use Rattle.vd_core.specs.declared.normal.NormalForm.{NormalForm}
-use Rattle.vd_anf.specs.Normal.{normal_form}
+use Rattle.vd_elaborate.specs.Normal.{normal_form}
 use Rattle.vd_gen.specs.Source.{generated}
 use Rattle.vd_search_stages.specs.Choices.{ChoiceOutcomes}
 use Rattle.vd_cmd_plan.specs.Labelled.{labelled_form}

@@ -8,29 +8,29 @@ use Rattle.vd_core.specs.declared.source.Source.{Source}
 use Rattle.vd_core.specs.Facts.{IsWellMade, weight_sum}
 use Rattle.vd_constraints.specs.Rules.{system_of}
 use Rattle.vd_constraints.specs.declared.labels.Labels.{Labels}
-use Rattle.vd_labels_least.proofs.Front.{labelled_once}
+use Rattle.vd_solver.proofs.Front.{labelled_once}
 use Rattle.vd_semantics.specs.ProgramMeaning.{program_outputs}
 use Rattle.vd_semantics.specs.SourceMeaning.{source_outputs}
-use Rattle.vd_anf.specs.Normal.{normal_form}
-use Rattle.vd_anf.proofs.Front.{outputs_kept}
+use Rattle.vd_elaborate.specs.Normal.{normal_form}
+use Rattle.vd_elaborate.proofs.Front.{outputs_kept}
 use Rattle.vd_parser.specs.Outcomes.{IsParse}
 use Rattle.vd_resolve.specs.Limits.{resolution}
 use Rattle.vd_resolve.specs.Faults.{Fault}
 use Rattle.vd_gen.specs.Sizes.{most_coordinates}
 use Rattle.vd_gen.specs.Source.{generated}
-use Rattle.vd_cmd_trial_laws.proofs.Front.{executed_of}
-use Rattle.vd_deal_needs_limits.specs.Items.{most_executed}
+use Rattle.vd_cmd_choose.proofs.Front.{executed_of}
+use Rattle.vd_deal_needs.specs.Items.{most_executed}
 use Rattle.vd_execution.specs.Joint.{Joint, started}
 use Rattle.vd_execution.specs.World.{Supply, World}
-use Rattle.vd_execution_confluence.specs.Claims.{Suffices, last_of}
-use Rattle.vd_world_report.specs.Reports.{line_of, lines_of, report_of}
-use Rattle.vd_world_report.specs.Schedules.{replayed}
-use Rattle.vd_world_report.specs.Supplies.{supply_of_files}
-use Rattle.vd_world_report.specs.Told.{HaveEnded}
+use Rattle.vd_execution.specs.Claims.{Suffices, last_of}
+use Rattle.vd_world.specs.Reports.{line_of, lines_of, report_of}
+use Rattle.vd_world.specs.Schedules.{replayed}
+use Rattle.vd_world.specs.Supplies.{supply_of_files}
+use Rattle.vd_world.specs.Told.{HaveEnded}
 use Rattle.vd_report.specs.ReportLines.{host_lines}
 use Rattle.vd_space.specs.Reading.{problem_of}
 use Rattle.vd_space.proofs.Front.{is_problem}
-use Rattle.vd_space_optimum.proofs.Front.{back}
+use Rattle.vd_space.proofs.Front.{back}
 use Rattle.vd_search_stages.specs.Choices.{IsChosen}
 use Rattle.vd_search_stages.specs.Optimum.{assigned}
 use Rattle.vd_search_stages.specs.declared.optimum.Assignment.{Assignment}

@@ -7,7 +7,7 @@ use Rattle.vd_core.specs.declared.normal.NormalForm.{NormalForm}
 use Rattle.vd_core.specs.declared.source.Source.{Source}
 use Rattle.vd_semantics.specs.ProgramMeaning.{program_outputs}
 use Rattle.vd_semantics.specs.SourceMeaning.{source_outputs}
-use Rattle.vd_anf.specs.Normal.{normal_form}
+use Rattle.vd_elaborate.specs.Normal.{normal_form}
 use Rattle.vd_gen.specs.Source.{generated}
 use Rattle.vd_report.specs.declared.reports.HostLine.{HostLine}
 use Rattle.vd_report.specs.ChoiceLines.{cost_line}

@@ -6,14 +6,14 @@ use Rattle.vd_base.specs.Limits.{most_search_budget}
 use Rattle.vd_outside.specs.Files.{FilesView, Contents}
 use Rattle.vd_core.specs.declared.normal.NormalForm.{NormalForm}
 use Rattle.vd_core.specs.declared.source.Source.{Source}
-use Rattle.vd_anf.specs.Normal.{normal_form}
+use Rattle.vd_elaborate.specs.Normal.{normal_form}
 use Rattle.vd_tape.specs.Made.{made_deals}
 use Rattle.vd_deal_needs.specs.declared.taking.HostNeeds.{HostNeeds}
 use Rattle.vd_deal_needs.specs.Sizes.{sizes_of}
-use Rattle.vd_deal_needs_programs.specs.Enough.{needs_for}
-use Rattle.vd_execution_confluence.specs.Claims.{Suffices, last_of}
+use Rattle.vd_deal_needs.specs.Enough.{needs_for}
+use Rattle.vd_execution.specs.Claims.{Suffices, last_of}
 use Rattle.vd_projection.specs.Programs.{joint_of}
-use Rattle.vd_world_report.specs.Supplies.{supply_of_files}
+use Rattle.vd_world.specs.Supplies.{supply_of_files}
 use Rattle.vd_gen.specs.Source.{generated}
 use Rattle.vd_report.specs.ChoiceLines.{cost_line}
 use Rattle.vd_search_stages.specs.Choices.{ChoiceOutcomes}

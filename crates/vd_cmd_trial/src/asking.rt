@@ -3,21 +3,19 @@
 ghost use Rattle.std.specs.Prelude.{◌≡◌, ◌≤◌, length, IfOk};
 ghost use Rattle.vd_base.specs.Limits.{most_deal_items, most_hosts};
 ghost use Rattle.vd_core.specs.Facts.{weight_sum};
-ghost use Rattle.vd_deal_items.specs.Validity.{IsConsistent};
+ghost use Rattle.vd_tape.specs.Validity.{IsConsistent};
 ghost use Rattle.vd_tape.specs.Made.{AreCounts};
 ghost use Rattle.vd_deal_needs.specs.Sizes.{sizes_of};
 ghost use Rattle.vd_cmd_choice.specs.Choice.{IsSelected};
-ghost use Rattle.vd_deal_needs_limits.specs.Items.{most_executed};
+ghost use Rattle.vd_deal_needs.specs.Items.{most_executed};
 ghost use Rattle.vd_cmd_files.specs.Asking.{AreAsked};
 ghost use Rattle.vd_cmd_trial.specs.Trial.{Suffice, asked_by, most_inputs, trial_asked, trial_input, trial_inputs, trial_words};
 
 use std::alloc::{AllocError, Global};
-use vd_base::{Inputs, Words};
-use vd_base_lists::Items;
+use vd_base::{Inputs, Items, Words};
 use vd_cmd_files::Asked;
 use vd_core::Program;
-use vd_deal_needs::{HostNeeds, sizes};
-use vd_deal_needs_programs::needs_of_program;
+use vd_deal_needs::{HostNeeds, needs_of_program, sizes};
 use vd_report::Schedule;
 use vd_search_stages::Assignment;
 use vd_tape::make;

@@ -2,12 +2,12 @@
 
 ghost use Rattle.std.specs.Prelude.{◌≡◌, ◌++◌, ◌≤◌, [], IfOk};
 ghost use Rattle.vd_core.specs.Facts.{weight_sum};
-ghost use Rattle.vd_anf.specs.Normal.{normal_form};
+ghost use Rattle.vd_elaborate.specs.Normal.{normal_form};
 ghost use Rattle.vd_gen.specs.Sizes.{most_coordinates};
 ghost use Rattle.vd_cmd_plan.specs.Plans.{Computes, ended};
 ghost use Rattle.vd_report.specs.ChoiceLines.{cost_line};
 ghost use Rattle.vd_cmd_choice.specs.Choice.{IsSelected};
-ghost use Rattle.vd_deal_needs_limits.specs.Items.{most_executed};
+ghost use Rattle.vd_deal_needs.specs.Items.{most_executed};
 ghost use Rattle.vd_cmd_trial.specs.Telling.{AnswersTrial, TellsProgram, TellsSource, TellsTrial};
 ghost use Rattle.vd_cmd_trial.specs.Trial.{ExecutesProgram, ExecutesSource, ExecutesTrial, headed_by, trial_text};
 

@@ -6,8 +6,7 @@ ghost use Rattle.vd_commit.specs.Commit.{eight as eight_of, own_each, same_each,
 
 use crate::ends::{Held, Seen};
 use std::alloc::AllocError;
-use vd_base::HostId;
-use vd_base_lists::Items;
+use vd_base::{HostId, Items};
 use vd_duet::{Clear, Duet};
 use vd_execution::{Act, Action, Reg};
 

@@ -9,3 +9,4 @@ mod InSight
 mod Growth
 mod Few
 mod Asking
+mod Walk

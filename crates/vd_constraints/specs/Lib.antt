@@ -5,3 +5,4 @@ pub mod Extends
 pub mod Rules
 pub mod Origins
 pub mod Outcomes
+pub mod Asking

@@ -3,7 +3,7 @@
 ghost use Rattle.std.specs.Prelude.{◌≡◌};
 
 use crate::system::{Part, Place};
-use vd_base_lists::Items;
+use vd_base::Items;
 use vd_formula::{Formula, Label};
 
 /// A label for each slot and one for each block.

@@ -4,8 +4,7 @@ ghost use Rattle.std.specs.Prelude.{◌≡◌, ◌++◌, OnOk};
 ghost use Rattle.vd_constraints.specs.Origins.{right_origins, slot_origins};
 
 use std::alloc::AllocError;
-use vd_base::{HostId, SlotId};
-use vd_base_lists::Items;
+use vd_base::{HostId, Items, SlotId};
 use vd_core::{NormalForm, Right};
 
 /// What asks for a check: a step of the program, and the host of the step where it has one.

@@ -14,8 +14,7 @@ ghost use Rattle.vd_constraints.specs.Systems.{AreOfStep, IsLabelOver, IsPlaceOf
 use crate::origin::{Origin, add_right_origins, add_slot_origins};
 use crate::system::{Place, System};
 use std::alloc::{AllocError, Global};
-use vd_base::{HostId, SlotId};
-use vd_base_lists::Items;
+use vd_base::{HostId, Items, SlotId};
 use vd_core::{NormalForm, Program, Right, Stmt, Written};
 use vd_formula::{Formula, Label};
 

@@ -6,8 +6,7 @@ ghost use Rattle.vd_constraints.specs.Rules.{conf, integ, rule, check, with_rule
 
 use std::alloc::AllocError;
 use std::marker::Model;
-use vd_base::{Names, SlotId};
-use vd_base_lists::Items;
+use vd_base::{Items, Names, SlotId};
 use vd_formula::Formula;
 
 /// What has a label.

@@ -9,7 +9,7 @@ use Rattle.vd_execution.specs.Gadgets.{BySums, ByXors}
 use Rattle.vd_duet.specs.Builder.{most_taken}
 use Rattle.vd_duet.specs.Calls.{Places, Made}
 use Rattle.vd_duet.specs.Laws.{IsIn, IsInOne, Gives, GivesWord, StandFor, Operand, IsReady}
-use Rattle.vd_backend_algebra.proofs.Front.{taken_off, put_on}
+use Rattle.vd_backend_sharing.proofs.Front.{taken_off, put_on}
 use Rattle.vd_backend_sharing.specs.declared.shares.Shares.{Shares}
 use Rattle.vd_backend_sharing.specs.PairCalls.{two, shares_of, places_at}
 use Rattle.vd_backend_sharing.proofs.Front.{First, Second, Old, New, BothGive, Applied, nothing_left, own_word, pair_at, fresh_gives, Parts, parts_of, both_known, stands_by, gives_then}

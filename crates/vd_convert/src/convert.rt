@@ -10,8 +10,7 @@ ghost use Rattle.vd_convert.specs.Convert.{added_parts, masked_parts, drawn, fin
 
 use std::alloc::{AllocError, Global};
 use vd_backend_sharing::{Pair, Shares, Sharing, tell};
-use vd_base::HostId;
-use vd_base_lists::Items;
+use vd_base::{HostId, Items};
 use vd_bits::{XorPair, XorShare};
 use vd_duet::{Duet, Parts};
 use vd_execution::{Act, Action, Binary, Reg};

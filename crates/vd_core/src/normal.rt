@@ -1,7 +1,6 @@
 //! The let-normal program: each slot is made by one statement, and each operand is a slot.
 
-use vd_base::{Form, HostId, Kind, Name, Names, Op, SlotId};
-use vd_base_lists::Items;
+use vd_base::{Form, HostId, Items, Kind, Name, Names, Op, SlotId};
 
 /// A right side.
 #[derive(PartialEq, Eq, Debug, Drop)]

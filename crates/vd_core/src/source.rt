@@ -1,7 +1,6 @@
 //! The syntax tree of a source. Each span is that of one token, at which a fault may be reported.
 
-use vd_base::{Kind, Name, Span};
-use vd_base_lists::{Boxed, Items};
+use vd_base::{Boxed, Items, Kind, Name, Span};
 
 /// A name as it stands in the text.
 #[derive(Drop)]

@@ -1,1 +1,4 @@
 mod Entering
+mod Making
+mod Taken
+mod Naming

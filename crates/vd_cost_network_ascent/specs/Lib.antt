@@ -1,1 +1,3 @@
 pub mod Walking
+pub mod Shifts
+pub mod SpaceAscentShifts

@@ -1,6 +1,6 @@
 -- What a walk finds.
 use Rattle.std.specs.Prelude.{◌≡◌, ℕ, ◌≤◌, Bool, ◌&&◌, if◌then◌else◌, IfSome, nat_lt, List, [], ◌∷◌, ◌++◌, length, take, ℤ}
-use Rattle.vd_cost_network.specs.Network.{network_tree}
+use Rattle.vd_space.specs.Network.{network_tree}
 use Rattle.vd_cost_network_prefix.specs.declared.path.NetworkPath.{NetworkPath}
 use Rattle.vd_search_tree.specs.Trees.{Tree, is_within}
 use Rattle.vd_space.specs.declared.problem.Problem.{Problem}
@@ -8,7 +8,7 @@ use Rattle.vd_space_prefix.specs.Tables.{AreListed}
 use Rattle.vd_cost_network_ascent.specs.declared.refutation.Refutation.{Refutation}
 use Rattle.vd_cost_network_ascent.specs.declared.walk.Tested.{Tested}
 use Rattle.vd_cost_network_ascent.specs.declared.walk.Tested.TheVariants.{Open, Refuted}
-use Rattle.vd_cost_network_shifts.specs.Shifts.{AreArcShifts}
+use Rattle.vd_cost_network_ascent.specs.Shifts.{AreArcShifts}
 
 -- a prefix of a problem's lists that is not empty, and some shifts of its arcs
 pub record IsRefutation (problem : Problem) (found : Refutation) : Type 0 where

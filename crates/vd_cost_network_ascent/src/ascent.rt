@@ -1,18 +1,17 @@
 //! The ascent over the points and arcs of a problem.
 
 ghost use Rattle.std.specs.Prelude.{◌≡◌, IfOk, IfSome};
-ghost use Rattle.vd_cost_network_shifts.specs.Shifts.{AreArcShifts};
+ghost use Rattle.vd_cost_network_ascent.specs.Shifts.{AreArcShifts};
 ghost use Rattle.vd_cost_network_prefix.specs.Tables.{AreNetworkTables};
 ghost use Rattle.vd_space.specs.Labelled.{IsLabelled};
 ghost use Rattle.vd_space.specs.Validity.{protocols as protocols_of};
 
 use crate::climbing::Climb;
+use crate::cost_network_shifts::shifts_of;
 use std::alloc::{AllocError, Global};
-use vd_base::Proto;
-use vd_base_lists::Items;
-use vd_cost_network_prefix::NetworkTables;
-use vd_cost_network_shifts::shifts_of;
+use vd_base::{Items, Proto};
 use vd_cost_network_sweeps::Nets;
+use vd_cost_network_prefix::NetworkTables;
 use vd_protocol::protocols;
 use vd_search_tree::Shift;
 use vd_space::Problem;

@@ -2,16 +2,16 @@
 
 ghost use Rattle.vd_space.specs.Labelled.{IsLabelled};
 
+use crate::cost_network_dominance::Thinned;
 use std::alloc::{AllocError, Global};
-use vd_base_lists::Items;
-use vd_cost_network_dominance::Thinned;
-use vd_cost_network_prefix::{ArcTable, NetworkTables};
+use vd_base::Items;
 use vd_cost_network_sweeps::{
     Ending, Last, Layout, Lift, Lifting, Nets, Reach, State, Tables, Witness,
 };
+use vd_cost_network_prefix::{ArcTable, NetworkTables};
 use vd_protocol::protocols;
 use vd_space::Problem;
-use vd_space_terms::candidates;
+use vd_space_tables::candidates;
 
 /// At first so many sweeps are made at most, over all settings.
 const FIRST: Reach = Reach {

@@ -4,10 +4,16 @@
 
 mod ascent;
 mod climbing;
+mod cost_network_dominance;
+mod cost_network_shifts;
 mod refutation;
+mod space_ascent;
 mod walk;
 mod walker;
 
 pub use ascent::Ascent;
+pub use cost_network_dominance::Thinned;
+pub use cost_network_shifts::{shifts_of, shifts_take_the_amounts};
 pub use refutation::Refutation;
+pub use space_ascent::plain_shifts;
 pub use walk::Walk;

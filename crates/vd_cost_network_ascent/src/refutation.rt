@@ -1,6 +1,6 @@
 //! What a walk finds.
 
-use vd_base_lists::Items;
+use vd_base::Items;
 use vd_search_tree::Shift;
 
 /// A prefix, and shifts of arcs under which each list that it begins seems to cost more than the walk's aim. Nothing of that is

@@ -2,18 +2,18 @@
 
 ghost use Rattle.std.specs.Prelude.{◌≡◌, ◌==◌, ◌<◌, ◌≤◌, IfOk, IfSome, length};
 ghost use Rattle.vd_cost_network_ascent.specs.Walking.{IsRefutation, TestsLast, can_enter, entered, made, tree};
-ghost use Rattle.vd_cost_network.specs.Arcs.{arcs};
+ghost use Rattle.vd_space.specs.Arcs.{arcs};
 ghost use Rattle.vd_cost_network_prefix.specs.Tables.{AreNetworkTables};
 ghost use Rattle.vd_space.specs.Labelled.{IsLabelled};
 ghost use Rattle.vd_space.specs.Validity.{protocols as protocols_of};
 
 use crate::ascent::Ascent;
+use crate::cost_network_shifts::shifts_of;
 use crate::refutation::Refutation;
 use crate::walker::{Candidate, Verdict, Walker};
 use std::alloc::{AllocError, Global};
-use vd_cost_network_prefix::{NetworkPath, NetworkTables};
-use vd_cost_network_shifts::shifts_of;
 use vd_cost_network_sweeps::UNIT;
+use vd_cost_network_prefix::{NetworkPath, NetworkTables};
 use vd_search_tree::Prefixes;
 use vd_space::Problem;
 

@@ -12,14 +12,14 @@ use Rattle.vd_space.specs.Sizes.{IsWithinLimits}
 use Rattle.vd_space.proofs.Front.{listed_or_not}
 use Rattle.vd_space_prefix.specs.Transfers.{IsWithin, by_place}
 use Rattle.vd_space_prefix.proofs.Front.{at_place, size_by_place}
-use Rattle.vd_cost_network.specs.Arcs.{arcs, point_value}
-use Rattle.vd_cost_network.specs.Network.{network_one, no_parts_left}
-use Rattle.vd_cost_network.specs.Points.{points}
+use Rattle.vd_space.specs.Arcs.{arcs, point_value}
+use Rattle.vd_space.specs.Network.{network_one, no_parts_left}
+use Rattle.vd_space.specs.Points.{points}
 use Rattle.vd_cost_network_prefix.specs.declared.made.PointTable.{PointTable}
 use Rattle.vd_cost_network_prefix.specs.States.{AreSettings, IsSmallPoint, as_states, count_of_points, point_at, point_part, settings}
 use Rattle.vd_cost_network_tables.specs.declared.raw.RawArc.{RawArc}
 use Rattle.vd_cost_network_tables.specs.declared.sums.Rows.TheVariants.{Points}
-use Rattle.vd_space_terms.specs.Sums.{AreSmallShifts}
+use Rattle.vd_space_tables.specs.Sums.{AreSmallShifts}
 use Rattle.vd_cost_network_tables.specs.Sums.{sums_of}
 use Rattle.vd_cost_network_tables.specs.Tables.{point_table, point_tables_of, raw_arc, tests_of}
 use Rattle.vd_cost_network_tables.proofs.Front.{map_map, tests_size, gain_is, point_light, point_tables_small}

@@ -12,14 +12,14 @@ use Rattle.vd_space.specs.Labelled.{IsLabelled}
 use Rattle.vd_space.specs.Sizes.{IsWithinLimits}
 use Rattle.vd_space_prefix.specs.Transfers.{IsWithin, by_place}
 use Rattle.vd_space_prefix.proofs.Front.{at_place}
-use Rattle.vd_cost_network.specs.Arcs.{arcs}
-use Rattle.vd_cost_network.specs.Network.{network_pair, network_pairs, no_parts_left}
+use Rattle.vd_space.specs.Arcs.{arcs}
+use Rattle.vd_space.specs.Network.{network_pair, network_pairs, no_parts_left}
 use Rattle.vd_cost_network_prefix.specs.declared.made.ArcTable.{ArcTable}
 use Rattle.vd_cost_network_prefix.specs.States.{AreSettings, IsSmallArc, as_states, count_of_points, arc_at, arc_part, settings}
 use Rattle.vd_cost_network_prefix.proofs.Front.{pairs_size}
 use Rattle.vd_cost_network_tables.specs.declared.raw.RawArc.{RawArc}
 use Rattle.vd_cost_network_tables.specs.declared.sums.Rows.TheVariants.{Firsts, Seconds}
-use Rattle.vd_space_terms.specs.Sums.{AreSmallShifts}
+use Rattle.vd_space_tables.specs.Sums.{AreSmallShifts}
 use Rattle.vd_cost_network_tables.specs.Sums.{part}
 use Rattle.vd_cost_network_tables.specs.Tables.{cells_of, arc_table, arc_tables_of, raw_arc, tests_of}
 use Rattle.vd_cost_network_tables.proofs.Front.{tests_found, map_map, tests_size, arc_tables_small, pair_at, taken}

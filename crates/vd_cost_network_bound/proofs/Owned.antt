@@ -4,11 +4,11 @@ use Rattle.vd_base.specs.declared.protocols.Proto.{Proto}
 use Rattle.vd_space.specs.declared.problem.Problem.{Problem}
 use Rattle.vd_space.specs.Validity.{protocols}
 use Rattle.vd_space_prefix.specs.Transfers.{by_place}
-use Rattle.vd_space_terms.proofs.Front.{same_by_place}
+use Rattle.vd_space_tables.proofs.Front.{same_by_place}
 use Rattle.vd_space_tables.specs.Values.{merged_value}
-use Rattle.vd_cost_network.specs.Points.{Switch, switches}
-use Rattle.vd_cost_network.specs.Arcs.{point_value, slot_value, switch_value}
-use Rattle.vd_cost_network.proofs.Front.{at_slot, at_switch}
+use Rattle.vd_space.specs.Points.{Switch, switches}
+use Rattle.vd_space.specs.Arcs.{point_value, slot_value, switch_value}
+use Rattle.vd_space.proofs.Front.{at_slot, at_switch}
 use Rattle.vd_cost_network_tables.specs.Tables.{own_value}
 use Rattle.vd_cost_network_tables.proofs.Front.{nothing_shifted, own_is}
 use Rattle.vd_cost_network_bound.specs.Bounds.{values_at}

@@ -9,7 +9,7 @@ use Rattle.vd_space.specs.Bounds.{lesser, least_below, only_if}
 use Rattle.vd_space_prefix.specs.Transfers.{by_place, least_where}
 use Rattle.vd_space_prefix.proofs.Front.{at_place, same_least}
 use Rattle.vd_cost_network_prefix.specs.States.{arc_at, point_at}
-use Rattle.vd_cost_network.specs.Network.{no_parts_left}
+use Rattle.vd_space.specs.Network.{no_parts_left}
 use Rattle.vd_cost_network_tables.specs.Tables.{arc_table_of, point_table_of}
 use Rattle.vd_cost_network_tables.proofs.Front.{least_where_same}
 use Rattle.vd_cost_network_bound.specs.Least.{least_among, passing}

@@ -9,14 +9,14 @@ use Rattle.vd_space.specs.Costs.{total}
 use Rattle.vd_space.specs.WellFormed.{IsWellFormed}
 use Rattle.vd_space_prefix.specs.Tables.{AreListed}
 use Rattle.vd_space_prefix.proofs.Front.{size_by_place}
-use Rattle.vd_cost_network.specs.Arcs.{arcs}
-use Rattle.vd_cost_network.specs.Network.{by_arcs}
+use Rattle.vd_space.specs.Arcs.{arcs}
+use Rattle.vd_space.specs.Network.{by_arcs}
 use Rattle.vd_cost_network_prefix.specs.declared.made.NetworkTables.{NetworkTables}
 use Rattle.vd_cost_network_prefix.specs.declared.made.SwitchTable.{SwitchTable}
 use Rattle.vd_cost_network_prefix.specs.States.{AreSettings, AreSwitchTables, as_states, count_of_points, arc_part, point_part, settings, states_of}
 use Rattle.vd_cost_network_prefix.specs.Tables.{AreNetworkTables}
 use Rattle.vd_cost_network_prefix.proofs.Front.{are_settings, states_are, parts_are}
-use Rattle.vd_space_terms.specs.Sums.{AreSmallShifts}
+use Rattle.vd_space_tables.specs.Sums.{AreSmallShifts}
 use Rattle.vd_cost_network_tables.specs.Tables.{arc_tables_of, point_tables_of}
 use Rattle.vd_cost_network_tables.proofs.Front.{arc_tables_are, point_tables_are, point_tables_small, arc_tables_small, few_settings}
 use Rattle.vd_cost_network_bound.specs.declared.made.NetworkBound.{NetworkBound}

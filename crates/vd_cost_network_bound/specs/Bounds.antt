@@ -4,7 +4,7 @@ use Rattle.vd_space.specs.declared.problem.Problem.{Problem}
 use Rattle.vd_space.specs.Validity.{protocols}
 use Rattle.vd_space.specs.WellFormed.{IsWellFormed}
 use Rattle.vd_space_prefix.specs.Transfers.{by_place}
-use Rattle.vd_cost_network.specs.Arcs.{arcs, point_value}
+use Rattle.vd_space.specs.Arcs.{arcs, point_value}
 use Rattle.vd_cost_network_prefix.specs.States.{count_of_points, settings}
 use Rattle.vd_cost_network_tables.specs.Tables.{raw_arc, switch_tables_from, tests_of}
 use Rattle.vd_cost_network_bound.specs.declared.made.NetworkBound.{NetworkBound}

@@ -1,12 +1,12 @@
 //! The least of what a point or an arc costs, over the settings at which points may be.
 
 ghost use Rattle.std.specs.Prelude.{◌≡◌, ℕ, None, [], pos, slice_index_or, unwrap_or};
-ghost use Rattle.vd_cost_network.specs.Network.{no_parts_left};
+ghost use Rattle.vd_space.specs.Network.{no_parts_left};
 ghost use Rattle.vd_cost_network_bound.specs.Least.{cell_less, least_among, least_of_cells, least_of_row, settings_at, value_with};
 ghost use Rattle.vd_space_prefix.specs.Transfers.{IsWithin};
 
 use std::slice::from_ref;
-use vd_base_lists::Items;
+use vd_base::Items;
 use vd_cost_network_prefix::number_of;
 use vd_cost_network_tables::{less, value_at};
 use vd_space::lesser_of;

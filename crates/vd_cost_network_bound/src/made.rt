@@ -1,7 +1,6 @@
 //! What does not depend on shifts.
 
-use vd_base::Proto;
-use vd_base_lists::Items;
+use vd_base::{Items, Proto};
 use vd_cost_network_prefix::SwitchTable;
 use vd_cost_network_tables::RawArc;
 

@@ -8,11 +8,10 @@ ghost use Rattle.vd_space.specs.WellFormed.{IsWellFormed};
 use crate::made::NetworkBound;
 use crate::values::point_values;
 use std::alloc::{AllocError, Global};
-use vd_base_lists::Items;
+use vd_base::Items;
 use vd_cost_network_tables::{all_arcs, settings, switch_tables};
 use vd_space::Problem;
-use vd_space_tables::all_protocols;
-use vd_space_terms::candidates;
+use vd_space_tables::{all_protocols, candidates};
 
 /// Puts the setting at the end, where the test passes.
 fn push_if(settings: &mut Items<u32>, setting: u32, test: bool) -> Result<(), AllocError>

@@ -3,11 +3,11 @@
 ghost use Rattle.std.specs.Prelude.{◌≡◌, ◌≤◌, IfOk, length};
 ghost use Rattle.std.specs.List.{range_with_len};
 ghost use Rattle.vd_base.specs.Limits.{most_certificate_shifts};
-ghost use Rattle.vd_cost_network.specs.Network.{by_arcs, units};
-ghost use Rattle.vd_cost_network.specs.Arcs.{arcs};
+ghost use Rattle.vd_space.specs.Network.{by_arcs, units};
+ghost use Rattle.vd_space.specs.Arcs.{arcs};
 ghost use Rattle.vd_cost_network_bound.specs.Bounds.{IsBoundOf};
 ghost use Rattle.vd_cost_network_prefix.specs.States.{AreSettings, as_states, count_of_points, arc_part, point_part};
-ghost use Rattle.vd_space_terms.specs.Sums.{AreSmallShifts};
+ghost use Rattle.vd_space_tables.specs.Sums.{AreSmallShifts};
 ghost use Rattle.vd_cost_network_tables.specs.Tables.{arc_tables_of, point_tables_of};
 ghost use Rattle.vd_space_prefix.specs.Tables.{AreListed};
 ghost use Rattle.vd_space_prefix.specs.Transfers.{IsWithin};

@@ -1,8 +1,8 @@
 //! What points cost alone, without shifts.
 
 ghost use Rattle.std.specs.Prelude.{◌≡◌, ◌<◌, IfOk, OnOk, length};
-ghost use Rattle.vd_cost_network.specs.Arcs.{switch_value};
-ghost use Rattle.vd_cost_network.specs.Points.{switch_of};
+ghost use Rattle.vd_space.specs.Arcs.{switch_value};
+ghost use Rattle.vd_space.specs.Points.{switch_of};
 ghost use Rattle.vd_cost_network_bound.specs.Bounds.{values_at};
 ghost use Rattle.vd_cost_network_prefix.specs.States.{count_of_points};
 ghost use Rattle.vd_cost_network_tables.specs.Tables.{switch_tables_from};
@@ -13,8 +13,7 @@ ghost use Rattle.vd_space.specs.Spaces.{IsProblem};
 ghost use Rattle.vd_space.specs.WellFormed.{AreProtocols, IsWellFormed};
 
 use std::alloc::{AllocError, Global};
-use vd_base::{HostId, Proto};
-use vd_base_lists::Items;
+use vd_base::{HostId, Items, Proto};
 use vd_cost_network_prefix::SwitchTable;
 use vd_cost_network_tables::slot_costs;
 use vd_space::{Guard, Problem, can_read};

@@ -7,7 +7,7 @@ use Rattle.std.proofs.lemmas.Bool.{cases_eq, ne_eqb}
 use Rattle.std.proofs.lemmas.List.{drop_more}
 use Rattle.vd_space.specs.declared.problem.Problem.{Problem}
 use Rattle.vd_space_prefix.proofs.Front.{at_place}
-use Rattle.vd_cost_network.specs.Points.{decided}
+use Rattle.vd_space.specs.Points.{decided}
 use Rattle.vd_cost_network_prefix.specs.declared.made.NetworkTables.{NetworkTables}
 use Rattle.vd_cost_network_prefix.specs.declared.reach.Reach.{Reach}
 use Rattle.vd_cost_network_prefix.specs.Reach.{AreDecidedBeside, IsReach, changed_by, arcs_at, may_change}

@@ -12,8 +12,8 @@ use Rattle.vd_space.specs.declared.problem.Problem.{Problem}
 use Rattle.vd_space.specs.Validity.{protocols, takes_part}
 use Rattle.vd_space_prefix.specs.Tables.{AreListed}
 use Rattle.vd_space_prefix.proofs.Front.{at_place, size_by_place}
-use Rattle.vd_cost_network.specs.Points.{Switch, decided, members, off, on, switched, switches}
-use Rattle.vd_cost_network.proofs.Front.{at_slot, at_either}
+use Rattle.vd_space.specs.Points.{Switch, decided, members, off, on, switched, switches}
+use Rattle.vd_space.proofs.Front.{at_slot, at_either}
 use Rattle.vd_cost_network_prefix.specs.States.{AreSettings, as_states, count_of_points, states_of}
 
 past_all : (n m point : ℕ) → n + m ≤ point → n ≤ point → m ≤ point - n

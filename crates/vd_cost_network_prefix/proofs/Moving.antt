@@ -8,7 +8,7 @@ use Rattle.std.proofs.lemmas.Bool.{cases_Bool, cases_eq, cond-true, cond-false, 
 use Rattle.vd_space.specs.Costs.{total}
 use Rattle.vd_space_prefix.specs.Naming.{numbers_from}
 use Rattle.vd_space_prefix.specs.Transfers.{IsWithin}
-use Rattle.vd_cost_network.specs.Points.{States}
+use Rattle.vd_space.specs.Points.{States}
 use Rattle.vd_cost_network_prefix.specs.declared.made.PointTable.{PointTable}
 use Rattle.vd_cost_network_prefix.specs.declared.made.ArcTable.{ArcTable}
 use Rattle.vd_cost_network_prefix.specs.declared.made.NetworkTables.{NetworkTables}

@@ -7,10 +7,10 @@ use Rattle.vd_space.specs.declared.problem.Problem.{Problem}
 use Rattle.vd_space.specs.Costs.{Pair, total}
 use Rattle.vd_space.proofs.Front.{total_map, total_same}
 use Rattle.vd_space_prefix.specs.Tables.{AreListed}
-use Rattle.vd_cost_network.specs.Points.{States, decided, points}
-use Rattle.vd_cost_network.specs.Arcs.{arcs}
-use Rattle.vd_cost_network.specs.Network.{least_arc, least_point, by_arcs, network_one, network_pairs}
-use Rattle.vd_cost_network.proofs.Front.{each_in_range}
+use Rattle.vd_space.specs.Points.{States, decided, points}
+use Rattle.vd_space.specs.Arcs.{arcs}
+use Rattle.vd_space.specs.Network.{least_arc, least_point, by_arcs, network_one, network_pairs}
+use Rattle.vd_space.proofs.Front.{each_in_range}
 use Rattle.vd_cost_network_prefix.specs.declared.made.NetworkTables.{NetworkTables}
 use Rattle.vd_cost_network_prefix.specs.States.{AreSettings, as_states, count_of_points, arc_part, parts_by, point_part, states_of}
 use Rattle.vd_cost_network_prefix.specs.Tables.{AreNetworkTables}

@@ -12,8 +12,8 @@ use Rattle.vd_space.specs.declared.problem.Guard.{Guard}
 use Rattle.vd_space.specs.Validity.{holds_at}
 use Rattle.vd_space.specs.Growth.{with_choice}
 use Rattle.vd_space.proofs.Front.{same_item}
-use Rattle.vd_cost_network.specs.Points.{decided, off, on, switched}
-use Rattle.vd_cost_network.proofs.Front.{at_either}
+use Rattle.vd_space.specs.Points.{decided, off, on, switched}
+use Rattle.vd_space.proofs.Front.{at_either}
 use Rattle.vd_cost_network_prefix.specs.declared.made.SwitchTable.{SwitchTable}
 use Rattle.vd_cost_network_prefix.specs.Reach.{AreDecidedBeside, may_change, may_turn, names_slot}
 use Rattle.vd_cost_network_prefix.specs.States.{AreSwitchTables, as_states, guard_state, states_of, table_state}

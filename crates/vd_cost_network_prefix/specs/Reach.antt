@@ -9,7 +9,7 @@ use Rattle.vd_space.specs.declared.problem.Guard.{Guard}
 use Rattle.vd_space.specs.Validity.{protocols}
 use Rattle.vd_space_prefix.specs.Naming.{numbers_from}
 use Rattle.vd_space_prefix.specs.Transfers.{by_place}
-use Rattle.vd_cost_network.specs.Points.{decided}
+use Rattle.vd_space.specs.Points.{decided}
 use Rattle.vd_cost_network_prefix.specs.States.{AreSmallTables, AreSwitchTables, as_states, count_of_points, parts_by}
 use Rattle.vd_cost_network_prefix.specs.declared.made.ArcTable.{ArcTable}
 use Rattle.vd_cost_network_prefix.specs.declared.made.SwitchTable.{SwitchTable}

@@ -8,9 +8,9 @@ use Rattle.vd_space.specs.declared.problem.Guard.{Guard}
 use Rattle.vd_space.specs.Validity.{protocols, takes_part}
 use Rattle.vd_space.specs.Costs.{Pair, total}
 use Rattle.vd_space_prefix.specs.Transfers.{IsWithin, by_place}
-use Rattle.vd_cost_network.specs.Points.{States, at_point, decided, off, on, switched, switches}
-use Rattle.vd_cost_network.specs.Arcs.{arcs}
-use Rattle.vd_cost_network.specs.Network.{least_arc, least_point, network_one, network_pairs, no_parts_left}
+use Rattle.vd_space.specs.Points.{States, at_point, decided, off, on, switched, switches}
+use Rattle.vd_space.specs.Arcs.{arcs}
+use Rattle.vd_space.specs.Network.{least_arc, least_point, network_one, network_pairs, no_parts_left}
 use Rattle.vd_cost_network_prefix.specs.declared.made.PointTable.{PointTable}
 use Rattle.vd_cost_network_prefix.specs.declared.made.ArcTable.{ArcTable}
 use Rattle.vd_cost_network_prefix.specs.declared.made.SwitchTable.{SwitchTable}

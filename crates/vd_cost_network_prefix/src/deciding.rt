@@ -8,8 +8,7 @@ use crate::made::NetworkTables;
 use crate::reach::Reach;
 use crate::states::point_state;
 use crate::sums::{state_at, sum_of_parts_at};
-use vd_base::Proto;
-use vd_base_lists::Items;
+use vd_base::{Items, Proto};
 use vd_space::Problem;
 
 /// What the first choices decide of each point, and what all points and arcs come to by that.

@@ -1,7 +1,6 @@
 //! The tables by which points and arcs are bounded. All amounts are in parts of a unit.
 
-use vd_base::{HostId, SlotId};
-use vd_base_lists::Items;
+use vd_base::{HostId, Items, SlotId};
 use vd_search_tree::Shift;
 
 /// What a point alone costs: by its setting, and at least where it is not decided.

@@ -2,7 +2,7 @@
 
 ghost use Rattle.std.specs.Prelude.{◌≡◌, [], take, IfOk};
 ghost use Rattle.std.proofs.Props.{props};
-ghost use Rattle.vd_cost_network.specs.Network.{network_tree};
+ghost use Rattle.vd_space.specs.Network.{network_tree};
 ghost use Rattle.vd_cost_network_prefix.specs.Reach.{IsReach};
 ghost use Rattle.vd_cost_network_prefix.specs.States.{AreSmallTables, as_states, parts_by};
 ghost use Rattle.vd_cost_network_prefix.specs.Tables.{AreNetworkTables, IsNetworkPath};
@@ -16,7 +16,7 @@ use crate::states::{decide, undecided};
 use crate::sums::sum_of_parts;
 use crate::units::whole_units;
 use std::alloc::{AllocError, Global};
-use vd_base_lists::Items;
+use vd_base::Items;
 use vd_search_tree::{Prefixes, no_choices};
 use vd_space::Problem;
 use vd_space_prefix::{Path, Tables};

@@ -8,8 +8,7 @@ ghost use Rattle.vd_space_prefix.specs.Transfers.{by_place};
 
 use crate::made::{ArcTable, NetworkTables, SwitchTable};
 use std::alloc::{AllocError, Global};
-use vd_base::SlotId;
-use vd_base_lists::Items;
+use vd_base::{Items, SlotId};
 use vd_space::Problem;
 
 /// What depends on slots and points.

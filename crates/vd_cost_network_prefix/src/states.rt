@@ -3,14 +3,13 @@
 ghost use Rattle.std.specs.Prelude.{◌≡◌, if◌then◌else◌, None, IfOk, is_some, length, slice_get};
 ghost use Rattle.std.specs.List.{list_all};
 ghost use Rattle.std.specs.Option.{option_map_or};
-ghost use Rattle.vd_cost_network.specs.Points.{decided, switched, switches};
+ghost use Rattle.vd_space.specs.Points.{decided, switched, switches};
 ghost use Rattle.vd_cost_network_prefix.specs.States.{AreSwitchTables, count_of_points, guard_state, states_of, table_state};
 ghost use Rattle.vd_space.specs.Validity.{protocols};
 
 use crate::made::SwitchTable;
 use std::alloc::{AllocError, Global};
-use vd_base::{Proto, SlotId};
-use vd_base_lists::Items;
+use vd_base::{Items, Proto, SlotId};
 use vd_space::{Guard, Problem, is_part};
 
 /// What a switch that is off, and one that is on, stands at.

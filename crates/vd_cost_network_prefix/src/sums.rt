@@ -2,13 +2,13 @@
 
 ghost use Rattle.std.specs.Prelude.{◌≡◌, ◌+◌, ◌*◌, ◌<◌, ◌+ℤ◌, None, [], length, slice_index_or, unwrap_or};
 ghost use Rattle.std.specs.List.{range_with_len};
-ghost use Rattle.vd_cost_network.specs.Network.{no_parts_left};
+ghost use Rattle.vd_space.specs.Network.{no_parts_left};
 ghost use Rattle.vd_cost_network_prefix.specs.States.{AreSmallArcs, AreSmallPoints, AreSmallTables, IsSmallArc, IsSmallPoint, as_states, arc_at, arc_part, parts_by, point_at, point_part};
 ghost use Rattle.vd_space_prefix.specs.Transfers.{IsWithin};
 ghost use Rattle.vd_space.specs.Costs.{total};
 
 use crate::made::{ArcTable, NetworkTables, PointTable};
-use vd_base_lists::Items;
+use vd_base::Items;
 use vd_space_prefix::amount_at;
 
 /// A term with nothing left, in parts.

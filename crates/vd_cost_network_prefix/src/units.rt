@@ -1,7 +1,7 @@
 //! Whole units of cost.
 
 ghost use Rattle.std.specs.Prelude.{◌≡◌};
-ghost use Rattle.vd_cost_network.specs.Network.{units};
+ghost use Rattle.vd_space.specs.Network.{units};
 ghost use Rattle.vd_space_prefix.specs.Transfers.{IsWithin};
 
 /// How many parts a unit of cost has.

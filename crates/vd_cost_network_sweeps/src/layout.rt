@@ -8,7 +8,7 @@ use crate::order::Order;
 use crate::sweeps::State;
 use crate::tables::Tables;
 use std::alloc::{AllocError, Global};
-use vd_base_lists::Items;
+use vd_base::Items;
 use vd_cost_network_prefix::NetworkTables;
 use vd_space::Problem;
 

@@ -5,7 +5,7 @@ use crate::numbers::FAR;
 use crate::order::Order;
 use std::alloc::{AllocError, Global};
 use std::collections::VecDeque;
-use vd_base_lists::Items;
+use vd_base::Items;
 use vd_cost_network_prefix::{ArcTable, NetworkTables, PointTable, SwitchTable};
 use vd_space::Problem;
 

@@ -16,10 +16,10 @@ use Rattle.vd_space.specs.Spaces.{IsProblem}
 use Rattle.vd_space.specs.Validity.{protocols, all_hosts, can_stand, is_candidate}
 use Rattle.vd_space_prefix.specs.Transfers.{by_place}
 use Rattle.vd_space_prefix.proofs.Front.{at_place, size_by_place}
-use Rattle.vd_space_terms.specs.Prices.{candidates_of}
-use Rattle.vd_space_terms.proofs.Front.{candidates_at}
-use Rattle.vd_cost_network.specs.Points.{Switch, switches}
-use Rattle.vd_cost_network.proofs.Front.{within, at_either, at_slot, at_switch}
+use Rattle.vd_space_tables.specs.Prices.{candidates_of}
+use Rattle.vd_space_tables.proofs.Front.{candidates_at}
+use Rattle.vd_space.specs.Points.{Switch, switches}
+use Rattle.vd_space.proofs.Front.{within, at_either, at_slot, at_switch}
 use Rattle.vd_cost_network_prefix.specs.States.{count_of_points}
 use Rattle.vd_cost_network_tables.proofs.Rawing.{switches_size}
 use Rattle.vd_cost_network_tables.specs.Tables.{switch_table, switch_tables_at, switch_tables_from, tests_of}

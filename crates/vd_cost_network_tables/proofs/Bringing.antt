@@ -16,9 +16,9 @@ use Rattle.vd_space.specs.Validity.{protocols, can_stand, holds_at, is_candidate
 use Rattle.vd_space.proofs.Front.{few_in}
 use Rattle.vd_space_prefix.specs.Transfers.{by_place}
 use Rattle.vd_space_prefix.proofs.Front.{candidates, size_by_place, at_place}
-use Rattle.vd_space_terms.specs.Prices.{candidates_of}
-use Rattle.vd_space_terms.proofs.Front.{candidates_at}
-use Rattle.vd_cost_network.specs.Points.{may_bring}
+use Rattle.vd_space_tables.specs.Prices.{candidates_of}
+use Rattle.vd_space_tables.proofs.Front.{candidates_at}
+use Rattle.vd_space.specs.Points.{may_bring}
 use Rattle.vd_cost_network_tables.specs.Tables.{is_kept, switch_table}
 
 any_same : (f g : ℕ → Bool) (first n : ℕ) → ((k : ℕ) → first ≤ k → k < first + n → f k ≡ g k) → list_any f (range_with_len first n) ≡ list_any g (range_with_len first n)

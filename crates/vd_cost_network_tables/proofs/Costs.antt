@@ -17,10 +17,10 @@ use Rattle.vd_space.specs.Spaces.{IsUse, IsIndex}
 use Rattle.vd_space.specs.Validity.{protocols, move}
 use Rattle.vd_space.specs.Costs.{weigh, use_term, index_term, moves_to, hosts_at}
 use Rattle.vd_space_prefix.specs.Transfers.{by_place}
-use Rattle.vd_space_terms.specs.Prices.{moves_of, tells_of}
-use Rattle.vd_cost_network.specs.Points.{Switch, switches}
-use Rattle.vd_cost_network.specs.Arcs.{parts, in_parts, guard_arc, member_arc}
-use Rattle.vd_cost_network.proofs.Front.{at_slot, at_switch}
+use Rattle.vd_space_tables.specs.Prices.{moves_of, tells_of}
+use Rattle.vd_space.specs.Points.{Switch, switches}
+use Rattle.vd_space.specs.Arcs.{parts, in_parts, guard_arc, member_arc}
+use Rattle.vd_space.proofs.Front.{at_slot, at_switch}
 use Rattle.vd_cost_network_prefix.specs.States.{settings}
 use Rattle.vd_cost_network_tables.specs.Tables.{cells_of}
 use Rattle.vd_cost_network_tables.specs.Raws.{guard_cells, member_cells, scaled_cells}

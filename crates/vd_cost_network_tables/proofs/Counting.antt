@@ -9,7 +9,7 @@ use Rattle.vd_search_tree.specs.declared.shift.Shift.{Shift}
 use Rattle.vd_cost_network_tables.specs.declared.raw.RawArc.{RawArc}
 use Rattle.vd_space.specs.declared.problem.Problem.{Problem}
 use Rattle.vd_space.specs.Costs.{Pair, total}
-use Rattle.vd_cost_network.specs.Network.{end_of, point_shift}
+use Rattle.vd_space.specs.Network.{end_of, point_shift}
 use Rattle.vd_space.specs.Bounds.{signed, use_shift}
 use Rattle.vd_space.proofs.Front.{total_ext, total_plus}
 use Rattle.vd_space_prefix.specs.Transfers.{IsWithin, by_place}
@@ -18,7 +18,7 @@ use Rattle.vd_cost_network_tables.specs.declared.sums.Rows.{Rows}
 use Rattle.vd_cost_network_tables.specs.declared.sums.Rows.TheVariants.{Firsts, Seconds, Points}
 use Rattle.vd_cost_network_tables.specs.Sums.{part, row_of, side_of, sums_of}
 use Rattle.vd_cost_network_tables.specs.Tables.{raw_arc}
-use Rattle.vd_space_terms.proofs.Front.{if_within, same_by_place, same_everywhere, set_by_place}
+use Rattle.vd_space_tables.proofs.Front.{if_within, same_by_place, same_everywhere, set_by_place}
 
 both_true : (a b : Bool) → a ≡ true → b ≡ true → (a && b) ≡ true
 both_true a b first second = ap₂ (λ x y. x && y) first second

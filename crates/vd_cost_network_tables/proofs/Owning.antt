@@ -10,10 +10,10 @@ use Rattle.vd_space.specs.Validity.{may_read, protocols}
 use Rattle.vd_space.specs.Bounds.{only_if}
 use Rattle.vd_space_prefix.specs.Transfers.{by_place}
 use Rattle.vd_space_prefix.proofs.Front.{at_place}
-use Rattle.vd_space_terms.proofs.Front.{same_by_place}
+use Rattle.vd_space_tables.proofs.Front.{same_by_place}
 use Rattle.vd_space_tables.specs.Values.{merged_value, together}
-use Rattle.vd_cost_network.specs.Points.{switch_of}
-use Rattle.vd_cost_network.specs.Arcs.{index_readable, parts, slot_value}
+use Rattle.vd_space.specs.Points.{switch_of}
+use Rattle.vd_space.specs.Arcs.{index_readable, parts, slot_value}
 use Rattle.vd_cost_network_tables.specs.Tables.{own_value, switch_values}
 
 pub nothing_shifted : (o : Option ℤ) → option_map (λ v. v +ℤ pos 0) o ≡ o

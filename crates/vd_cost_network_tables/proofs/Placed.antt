@@ -15,10 +15,10 @@ use Rattle.vd_space.proofs.Front.{listed_at}
 use Rattle.vd_space_prefix.specs.Transfers.{by_place, least_where}
 use Rattle.vd_space_prefix.proofs.Front.{same_least, size_by_place, at_place}
 use Rattle.vd_search_tree.specs.declared.shift.Shift.{Shift}
-use Rattle.vd_cost_network.specs.Points.{Switch, States, at_point, is_setting, least_over, most_settings, points, switches}
-use Rattle.vd_cost_network.specs.Arcs.{arcs}
-use Rattle.vd_cost_network.specs.Network.{least_arc, least_point, network_one, network_pairs, no_parts_left}
-use Rattle.vd_cost_network.proofs.Front.{held}
+use Rattle.vd_space.specs.Points.{Switch, States, at_point, is_setting, least_over, most_settings, points, switches}
+use Rattle.vd_space.specs.Arcs.{arcs}
+use Rattle.vd_space.specs.Network.{least_arc, least_point, network_one, network_pairs, no_parts_left}
+use Rattle.vd_space.proofs.Front.{held}
 use Rattle.vd_cost_network_prefix.specs.declared.made.ArcTable.{ArcTable}
 use Rattle.vd_cost_network_prefix.specs.declared.made.PointTable.{PointTable}
 use Rattle.vd_cost_network_prefix.specs.States.{AreArcTables, ArePointTables, AreSettings, count_of_points, arc_at, arc_part, point_at, point_part, settings}

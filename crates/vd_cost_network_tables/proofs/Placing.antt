@@ -7,10 +7,10 @@ use Rattle.vd_space.specs.Costs.{total}
 use Rattle.vd_space.proofs.Front.{listed_or_not}
 use Rattle.vd_space_prefix.specs.Transfers.{IsWithin, by_place}
 use Rattle.vd_space_prefix.proofs.Front.{at_place, size_by_place}
-use Rattle.vd_space_terms.proofs.Front.{no_longer, place_within, whole_within}
+use Rattle.vd_space_tables.proofs.Front.{no_longer, place_within, whole_within}
 use Rattle.vd_cost_network_tables.specs.declared.raw.RawArc.{RawArc}
 use Rattle.vd_cost_network_tables.specs.declared.sums.Rows.{Rows}
-use Rattle.vd_space_terms.specs.Sums.{AreSmallShifts, AreSmallSums}
+use Rattle.vd_space_tables.specs.Sums.{AreSmallShifts, AreSmallSums}
 use Rattle.vd_cost_network_tables.specs.Sums.{part, sums_of}
 use Rattle.vd_cost_network_tables.proofs.Counting.{part_within}
 

@@ -18,18 +18,18 @@ use Rattle.vd_space.proofs.Front.{listed_or_not}
 use Rattle.vd_space_prefix.specs.Tables.{gain_at}
 use Rattle.vd_space_prefix.specs.Transfers.{IsWithin, by_place}
 use Rattle.vd_space_prefix.proofs.Front.{at_place, size_by_place}
-use Rattle.vd_space_terms.proofs.Front.{get_or_any, if_within, same_by_place, whole_within}
+use Rattle.vd_space_tables.proofs.Front.{get_or_any, if_within, same_by_place, whole_within}
 use Rattle.vd_space_tables.specs.Values.{merged_value, together}
 use Rattle.vd_space_tables.proofs.Front.{HasAtMost, add_within, more_within, operation_value_small, outputs_value_small}
-use Rattle.vd_cost_network.specs.Points.{Switch, off, points, switches}
-use Rattle.vd_cost_network.specs.Arcs.{index_readable, arcs, parts, point_value, slot_value, switch_value}
-use Rattle.vd_cost_network.specs.Network.{network_one, point_shift, end_of}
-use Rattle.vd_cost_network.proofs.Front.{at_either, at_slot, at_switch}
+use Rattle.vd_space.specs.Points.{Switch, off, points, switches}
+use Rattle.vd_space.specs.Arcs.{index_readable, arcs, parts, point_value, slot_value, switch_value}
+use Rattle.vd_space.specs.Network.{network_one, point_shift, end_of}
+use Rattle.vd_space.proofs.Front.{at_either, at_slot, at_switch}
 use Rattle.vd_cost_network_prefix.specs.declared.made.PointTable.{PointTable}
 use Rattle.vd_cost_network_prefix.specs.States.{AreSmallPoints, IsSmallPoint, count_of_points, settings}
 use Rattle.vd_cost_network_tables.specs.declared.raw.RawArc.{RawArc}
 use Rattle.vd_cost_network_tables.specs.declared.sums.Rows.TheVariants.{Points}
-use Rattle.vd_space_terms.specs.Sums.{AreSmallShifts, AreSmallSums}
+use Rattle.vd_space_tables.specs.Sums.{AreSmallShifts, AreSmallSums}
 use Rattle.vd_cost_network_tables.specs.Sums.{part, sums_of}
 use Rattle.vd_cost_network_tables.specs.Tables.{point_table, point_tables_of, raw_arc, switch_values, table_at, table_by, table_of_values, tests_of}
 use Rattle.vd_cost_network_tables.proofs.Costs.{map_map}

@@ -19,14 +19,14 @@ use Rattle.vd_space.specs.Bounds.{lesser, least_below, only_if, signed, use_shif
 use Rattle.vd_space.proofs.Front.{listed_or_not, small, told_price, index_price, move_price, each_leads, each_map, each_append, each_at}
 use Rattle.vd_space_prefix.specs.Transfers.{IsWithin, by_place, least_where}
 use Rattle.vd_space_prefix.proofs.Front.{size_by_place, at_place}
-use Rattle.vd_space_terms.proofs.Front.{if_within, place_within, whole_within}
-use Rattle.vd_cost_network.specs.Points.{Switch, switch_of, switches, members, off}
-use Rattle.vd_cost_network.specs.Arcs.{parts, in_parts, member_arc, switch_arcs, arcs_from, arcs}
-use Rattle.vd_cost_network.specs.Network.{network_pair, network_pairs, no_parts_left}
-use Rattle.vd_cost_network.proofs.Front.{each_flat}
+use Rattle.vd_space_tables.proofs.Front.{if_within, place_within, whole_within}
+use Rattle.vd_space.specs.Points.{Switch, switch_of, switches, members, off}
+use Rattle.vd_space.specs.Arcs.{parts, in_parts, member_arc, switch_arcs, arcs_from, arcs}
+use Rattle.vd_space.specs.Network.{network_pair, network_pairs, no_parts_left}
+use Rattle.vd_space.proofs.Front.{each_flat}
 use Rattle.vd_cost_network_prefix.specs.States.{AreSmallArcs, IsSmallArc, IsSmallPoint, settings}
 use Rattle.vd_cost_network_tables.specs.declared.raw.RawArc.{RawArc}
-use Rattle.vd_space_terms.specs.Sums.{AreSmallShifts}
+use Rattle.vd_space_tables.specs.Sums.{AreSmallShifts}
 use Rattle.vd_cost_network_tables.specs.Tables.{arc_table, arc_table_of, arc_tables_of, point_table_of, raw_arc, tests_of}
 
 -- ---- options

@@ -14,11 +14,11 @@ use Rattle.vd_space.specs.declared.problem.Guard.{Guard}
 use Rattle.vd_space.specs.Spaces.{IsProblem, IsUse, IsIndex}
 use Rattle.vd_space.specs.Validity.{protocols, all_hosts, holds_at, is_candidate}
 use Rattle.vd_space.specs.Costs.{pairs, use_term, index_term}
-use Rattle.vd_space_terms.specs.Prices.{moves_of, tells_of}
+use Rattle.vd_space_tables.specs.Prices.{moves_of, tells_of}
 use Rattle.vd_space.proofs.Front.{each_map}
-use Rattle.vd_cost_network.specs.Points.{Switch, switch_of, switches, may_bring, members}
-use Rattle.vd_cost_network.specs.Arcs.{in_parts, member_arc, switch_arcs, arcs_from, arcs}
-use Rattle.vd_cost_network.proofs.Front.{any_held, each_filtered, candidate_inside}
+use Rattle.vd_space.specs.Points.{Switch, switch_of, switches, may_bring, members}
+use Rattle.vd_space.specs.Arcs.{in_parts, member_arc, switch_arcs, arcs_from, arcs}
+use Rattle.vd_space.proofs.Front.{any_held, each_filtered, candidate_inside}
 use Rattle.vd_cost_network_prefix.specs.declared.made.SwitchTable.{SwitchTable}
 use Rattle.vd_cost_network_tables.specs.Tables.{raw_arc, switch_table, switch_tables_at, switch_tables_from}
 use Rattle.vd_cost_network_tables.specs.Raws.{guard_raw, index_raw, member_raw, raws_by, raws_from, switch_raws, use_raw}

@@ -9,12 +9,12 @@ use Rattle.vd_space.specs.Costs.{Pair, total}
 use Rattle.vd_space.specs.Bounds.{use_shift}
 use Rattle.vd_space_prefix.specs.Transfers.{by_place}
 use Rattle.vd_space_prefix.proofs.Front.{at_place, size_by_place}
-use Rattle.vd_space_terms.proofs.Front.{same_by_place}
+use Rattle.vd_space_tables.proofs.Front.{same_by_place}
 use Rattle.vd_space.specs.Validity.{protocols}
-use Rattle.vd_cost_network.specs.Points.{Switch, switches}
-use Rattle.vd_cost_network.specs.Arcs.{arcs}
-use Rattle.vd_cost_network.specs.Network.{network_pair, network_pairs}
-use Rattle.vd_cost_network.proofs.Front.{at_either}
+use Rattle.vd_space.specs.Points.{Switch, switches}
+use Rattle.vd_space.specs.Arcs.{arcs}
+use Rattle.vd_space.specs.Network.{network_pair, network_pairs}
+use Rattle.vd_space.proofs.Front.{at_either}
 use Rattle.vd_cost_network_prefix.specs.declared.made.ArcTable.{ArcTable}
 use Rattle.vd_cost_network_prefix.specs.States.{settings}
 use Rattle.vd_cost_network_tables.specs.declared.raw.RawArc.{RawArc}

@@ -5,7 +5,7 @@ use Rattle.vd_base.specs.declared.ids.HostId.{HostId}
 use Rattle.vd_space.specs.declared.problem.Problem.{Problem}
 use Rattle.vd_space.specs.declared.problem.Guard.{Guard}
 use Rattle.vd_space.specs.Validity.{all_hosts}
-use Rattle.vd_cost_network.specs.Points.{switch_of, switched, switches}
+use Rattle.vd_space.specs.Points.{switch_of, switched, switches}
 use Rattle.vd_cost_network_prefix.specs.declared.made.SwitchTable.{SwitchTable}
 use Rattle.vd_cost_network_prefix.specs.States.{AreSwitchTables, guard_state, table_state}
 use Rattle.vd_cost_network_tables.specs.Tables.{switch_table, switch_tables_at, switch_tables_from}

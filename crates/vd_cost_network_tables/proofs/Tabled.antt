@@ -4,8 +4,8 @@ use Rattle.std.specs.Prelude.{unwrap_or}
 use Rattle.std.specs.List.{range_with_len}
 use Rattle.vd_space_prefix.specs.Transfers.{by_place, least_where}
 use Rattle.vd_space_prefix.proofs.Front.{at_place}
-use Rattle.vd_space_terms.proofs.Front.{same_by_place}
-use Rattle.vd_cost_network.specs.Network.{no_parts_left}
+use Rattle.vd_space_tables.proofs.Front.{same_by_place}
+use Rattle.vd_space.specs.Network.{no_parts_left}
 use Rattle.vd_cost_network_tables.specs.Tables.{least_column, least_row, arc_table_of, point_table_of, table_of_cells, table_of_values}
 use Rattle.vd_cost_network_tables.proofs.Placed.{least_where_same}
 use Rattle.vd_cost_network_tables.proofs.Costs.{map_map}

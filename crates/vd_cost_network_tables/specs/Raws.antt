@@ -12,7 +12,7 @@ use Rattle.vd_space.specs.declared.problem.Use.{Use}
 use Rattle.vd_space.specs.declared.problem.Index.{Index}
 use Rattle.vd_space.specs.declared.problem.Guard.{Guard}
 use Rattle.vd_space.specs.Costs.{weigh}
-use Rattle.vd_cost_network.specs.Arcs.{parts}
+use Rattle.vd_space.specs.Arcs.{parts}
 use Rattle.vd_cost_network_prefix.specs.declared.made.SwitchTable.{SwitchTable}
 use Rattle.vd_cost_network_tables.specs.declared.raw.RawArc.{RawArc}
 

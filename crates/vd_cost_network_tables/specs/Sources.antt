@@ -4,11 +4,11 @@ use Rattle.vd_base.specs.declared.protocols.Proto.{Proto}
 use Rattle.vd_space.specs.declared.problem.Problem.{Problem}
 use Rattle.vd_space.specs.WellFormed.{AreProtocols}
 use Rattle.vd_space_prefix.specs.Transfers.{ArePrices, by_place}
-use Rattle.vd_cost_network.specs.Arcs.{arcs}
+use Rattle.vd_space.specs.Arcs.{arcs}
 use Rattle.vd_cost_network_prefix.specs.declared.made.SwitchTable.{SwitchTable}
 use Rattle.vd_cost_network_prefix.specs.States.{count_of_points, settings}
 use Rattle.vd_cost_network_tables.specs.declared.raw.RawArc.{RawArc}
-use Rattle.vd_space_terms.specs.Sums.{AreSmallSums}
+use Rattle.vd_space_tables.specs.Sums.{AreSmallSums}
 use Rattle.vd_cost_network_tables.specs.Tables.{raw_arc, switch_tables_from, tests_of}
 
 -- the protocols, the switches by guard and host, and the arcs without shifts

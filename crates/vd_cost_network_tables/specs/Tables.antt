@@ -12,9 +12,9 @@ use Rattle.vd_space.specs.Costs.{One, Pair}
 use Rattle.vd_space.specs.Bounds.{only_if}
 use Rattle.vd_space_prefix.specs.Tables.{gain_at}
 use Rattle.vd_space_prefix.specs.Transfers.{by_place, least_where}
-use Rattle.vd_cost_network.specs.Points.{Switch, at_point, members, points, switch_of}
-use Rattle.vd_cost_network.specs.Arcs.{index_readable, arcs, parts, point_value, switch_value}
-use Rattle.vd_cost_network.specs.Network.{network_one, network_pairs, no_parts_left}
+use Rattle.vd_space.specs.Points.{Switch, at_point, members, points, switch_of}
+use Rattle.vd_space.specs.Arcs.{index_readable, arcs, parts, point_value, switch_value}
+use Rattle.vd_space.specs.Network.{network_one, network_pairs, no_parts_left}
 use Rattle.vd_cost_network_prefix.specs.declared.made.ArcTable.{ArcTable}
 use Rattle.vd_cost_network_prefix.specs.declared.made.PointTable.{PointTable}
 use Rattle.vd_cost_network_prefix.specs.declared.made.SwitchTable.{SwitchTable}

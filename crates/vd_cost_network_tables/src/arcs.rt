@@ -6,7 +6,7 @@ ghost use Rattle.vd_base.specs.HostSets.{host as nth_host};
 ghost use Rattle.vd_base.specs.Limits.{most_weights};
 ghost use Rattle.vd_base.specs.Moves.{move_at};
 ghost use Rattle.vd_base.specs.declared.protocols.Proto.TheVariants.{Local as local};
-ghost use Rattle.vd_cost_network.specs.Arcs.{parts};
+ghost use Rattle.vd_space.specs.Arcs.{parts};
 ghost use Rattle.vd_cost_network_tables.specs.Raws.{guard_cells, index_raw, member_cells, member_raw, raws_by, scaled_cells, switch_raws, use_raw};
 ghost use Rattle.vd_space_prefix.specs.Transfers.{ArePrices};
 ghost use Rattle.vd_space.specs.Costs.{weigh};
@@ -18,8 +18,7 @@ ghost use Rattle.vd_cost_network_tables.specs.Sources.{AreBothPrices};
 
 use crate::raw::RawArc;
 use std::alloc::{AllocError, Global};
-use vd_base::{HostId, Proto, SlotId, is_holder};
-use vd_base_lists::Items;
+use vd_base::{HostId, Items, Proto, SlotId, is_holder};
 use vd_cost::move_cost;
 use vd_cost_network_prefix::SwitchTable;
 use vd_protocol::joins;

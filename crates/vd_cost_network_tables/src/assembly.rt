@@ -2,7 +2,7 @@
 
 ghost use Rattle.std.specs.Prelude.{◌≡◌, ◌≤◌, ◌∷◌, ◌++◌, [], IfOk, length, map, replicate, slice_index_or, true};
 ghost use Rattle.vd_base.specs.Limits.{most_certificate_shifts};
-ghost use Rattle.vd_cost_network.specs.Arcs.{arcs};
+ghost use Rattle.vd_space.specs.Arcs.{arcs};
 ghost use Rattle.vd_cost_network_prefix.specs.States.{AreSmallArcs};
 ghost use Rattle.vd_cost_network_prefix.specs.Tables.{AreNetworkTables};
 ghost use Rattle.vd_cost_network_tables.specs.Tables.{arc_tables_of, raw_arc, switch_tables_from};
@@ -16,13 +16,11 @@ use crate::raw::RawArc;
 use crate::sums::{Rows, shift_sums};
 use crate::switches::switch_tables;
 use std::alloc::{AllocError, Global};
-use vd_base::Proto;
-use vd_base_lists::Items;
+use vd_base::{Items, Proto};
 use vd_cost_network_prefix::{ArcTable, NetworkTables, SwitchTable};
 use vd_search_tree::Shift;
 use vd_space::Problem;
-use vd_space_tables::all_protocols;
-use vd_space_terms::{candidates, index_prices, move_prices};
+use vd_space_tables::{all_protocols, candidates, index_prices, move_prices};
 
 /// Which settings each point may be at: a slot at its candidates, and a switch off or on.
 pub fn settings(

@@ -1,13 +1,13 @@
 //! Tables of terms of one point and of two, over the settings at which these may be.
 
 ghost use Rattle.std.specs.Prelude.{◌≡◌, ℕ, None, [], IfOk, length, map, option_map, pos, slice_index_or, unwrap_or, ◌+ℤ◌, ◌-ℤ◌};
-ghost use Rattle.vd_cost_network.specs.Network.{no_parts_left};
+ghost use Rattle.vd_space.specs.Network.{no_parts_left};
 ghost use Rattle.vd_cost_network_tables.specs.Tables.{least_column, least_row, shifted_cells, shifted_row, table_of_cells, table_of_values};
 ghost use Rattle.vd_space_prefix.specs.Transfers.{IsWithin, by_place, least_where};
 ghost use Rattle.vd_space.specs.Bounds.{only_if};
 
 use std::alloc::{AllocError, Global};
-use vd_base_lists::Items;
+use vd_base::Items;
 use vd_cost_network_prefix::{ArcTable, PointTable, number_of};
 use vd_space::lesser_of;
 use vd_space_prefix::amount_at;

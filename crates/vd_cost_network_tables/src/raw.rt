@@ -1,6 +1,6 @@
 //! Arcs without shifts.
 
-use vd_base_lists::Items;
+use vd_base::Items;
 
 /// What an arc costs without shifts, by the settings of its two points, where these join. In parts of a unit.
 #[derive(Drop)]

@@ -3,14 +3,14 @@
 
 ghost use Rattle.std.specs.Prelude.{◌≡◌, ◌+ℤ◌, ◌≤◌, ◌<◌, IfOk, length, pos, replicate, slice_index_or, slice_set};
 ghost use Rattle.vd_base.specs.Limits.{most_certificate_shifts};
-ghost use Rattle.vd_space_terms.specs.Sums.{AreSmallShifts};
+ghost use Rattle.vd_space_tables.specs.Sums.{AreSmallShifts};
 ghost use Rattle.vd_cost_network_tables.specs.Sums.{row_of, side_of, sums_of};
 ghost use Rattle.vd_space_prefix.specs.Transfers.{IsWithin};
 ghost use Rattle.vd_space.specs.Bounds.{signed};
 
 use crate::raw::RawArc;
 use std::alloc::{AllocError, Global};
-use vd_base_lists::Items;
+use vd_base::Items;
 use vd_search_tree::Shift;
 
 /// The rows of a table of sums: for each arc what is shifted at its first end, the same at its second, or for each point

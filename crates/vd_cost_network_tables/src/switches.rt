@@ -2,14 +2,13 @@
 
 ghost use Rattle.std.specs.Prelude.{◌≡◌, ◌++◌, ◌∷◌, ◌<◌, [], IfOk, OnOk, filter, if◌then◌else◌, length, slice_index_or};
 ghost use Rattle.std.specs.List.{list_any, range_with_len};
-ghost use Rattle.vd_cost_network.specs.Points.{may_bring};
+ghost use Rattle.vd_space.specs.Points.{may_bring};
 ghost use Rattle.vd_cost_network_tables.specs.Tables.{is_kept, switch_tables_at, switch_tables_from};
-ghost use Rattle.vd_space_terms.specs.Prices.{candidates_of};
+ghost use Rattle.vd_space_tables.specs.Prices.{candidates_of};
 ghost use Rattle.vd_space.specs.WellFormed.{AreProtocols};
 
 use std::alloc::{AllocError, Global};
-use vd_base::{HostId, Proto, SlotId, is_holder, protocol_at};
-use vd_base_lists::Items;
+use vd_base::{HostId, Items, Proto, SlotId, is_holder, protocol_at};
 use vd_cost_network_prefix::SwitchTable;
 use vd_space::{Guard, Problem};
 

@@ -1,3 +1,13 @@
 pub mod Front
 mod Taken
 mod Greatest
+mod DealNeedsLawsTaken
+mod ReadOff
+mod Countable
+mod Strangers
+mod Sizes
+mod Enough
+mod Made
+mod Acts
+mod DealNeedsLimitsBlocks
+mod Programs

@@ -5,7 +5,7 @@ use Rattle.vd_execution.specs.declared.instructions.Instr.{Instr}
 use Rattle.vd_execution.specs.Code.{Code, Finished, Then, Send, Recv, Choose, Repeat, weight}
 use Rattle.vd_execution.specs.Step.{Source, same_source}
 use Rattle.vd_execution.specs.Text.{Open, Reading, with_instr, read_before, read}
-use Rattle.vd_deal_needs_laws.specs.Needs.{counts, one_of, source_of}
+use Rattle.vd_deal_needs.specs.DealNeedsLawsNeeds.{counts, one_of, source_of}
 use Rattle.vd_deal_needs.specs.declared.blocks.TakenBehind.{TakenBehind}
 use Rattle.vd_deal_needs.specs.Counted.{Counts, IsCountable, capped, code_in}
 

@@ -4,7 +4,7 @@ use Rattle.vd_execution.specs.declared.instructions.Instr.{Instr}
 use Rattle.vd_execution.specs.Code.{Code, Finished, weight}
 use Rattle.vd_execution.specs.Step.{Source}
 use Rattle.vd_execution.specs.Text.{Open, AfterEnd, AfterElse, Reading, IsCodeOf, with_instr, read}
-use Rattle.vd_deal_needs_laws.specs.Needs.{counts}
+use Rattle.vd_deal_needs.specs.DealNeedsLawsNeeds.{counts}
 use Rattle.vd_deal_needs.specs.declared.blocks.TakenBehind.{TakenBehind}
 use Rattle.vd_deal_needs.specs.declared.blocks.TakenBehind.TheVariants as behind
 

@@ -1,7 +1,7 @@
 -- How much to deal: the greatest number of each kind that a host, or a host of two, takes.
 use Rattle.std.specs.Prelude.{ℕ, max, List, length}
 use Rattle.std.specs.List.{fold}
-use Rattle.vd_deal_items.specs.declared.deal.Counts.{Counts}
+use Rattle.vd_tape.specs.declared.deal_items.deal.Counts.{Counts}
 use Rattle.vd_deal_needs.specs.declared.taking.HostNeeds.{HostNeeds}
 use Rattle.vd_deal_needs.specs.declared.taking.Shared.{Shared}
 

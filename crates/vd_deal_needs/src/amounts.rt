@@ -5,7 +5,7 @@ ghost use Rattle.vd_base.specs.Limits.{most_hosts};
 ghost use Rattle.vd_deal_needs.specs.Sizes as spec;
 
 use crate::taking::{HostNeeds, Shared};
-use vd_deal_items::Counts;
+use vd_tape::Counts;
 
 /// Nothing of any kind.
 const NOTHING: Shared = Shared {

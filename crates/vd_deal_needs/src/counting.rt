@@ -1,14 +1,14 @@
 //! How many items a host's code takes from a list at most, by its text.
 
 ghost use Rattle.std.specs.Prelude.{◌≡◌, ℕ, ◌+◌, ◌*◌, max, List, [], ◌∷◌, ◌++◌, IfOk};
-ghost use Rattle.vd_deal_needs_laws.specs.Needs.{counts};
+ghost use Rattle.vd_deal_needs.specs.DealNeedsLawsNeeds.{counts};
 ghost use Rattle.vd_deal_needs.specs.Counted.{CountsOn, IsCountable, capped, code_in};
 ghost use Rattle.vd_deal_needs.specs.Lists.{source_in};
 
 use crate::blocks::TakenBehind;
 use crate::lists::{ItemList, taken_by};
 use std::alloc::{AllocError, Global};
-use vd_base_lists::Items;
+use vd_base::Items;
 use vd_execution::Instr;
 
 /// One more than any number of items that a code within the ranges can take. No count goes further.

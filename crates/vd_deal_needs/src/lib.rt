@@ -4,8 +4,16 @@
 mod amounts;
 mod blocks;
 mod counting;
+mod deal_needs_laws;
+mod deal_needs_limits;
+mod deal_needs_programs;
 mod lists;
 mod taking;
 
 pub use amounts::{greater, sizes};
+pub use deal_needs_laws::{needs_are_enough, needs_are_least, needs_are_read_off};
+pub use deal_needs_limits::items_are_few;
+pub use deal_needs_programs::{
+    deals_have_their_sizes, needs_of_program, sizes_are_enough, sizes_are_least,
+};
 pub use taking::{HostNeeds, Shared, host_needs, needs};

@@ -3,7 +3,7 @@
 ghost use Rattle.std.specs.Prelude.{◌≡◌};
 ghost use Rattle.std.specs.Option.{option_map};
 ghost use Rattle.vd_execution.specs.Step.{same_source};
-ghost use Rattle.vd_deal_needs_laws.specs.Needs.{one_of, source_of};
+ghost use Rattle.vd_deal_needs.specs.DealNeedsLawsNeeds.{one_of, source_of};
 ghost use Rattle.vd_deal_needs.specs.Lists.{source_in};
 
 use vd_base::HostId;

@@ -3,15 +3,14 @@
 ghost use Rattle.std.specs.Prelude.{◌≡◌, ◌≤◌, All, IfOk, length, map};
 ghost use Rattle.std.specs.List.{range_with_len};
 ghost use Rattle.vd_base.specs.Limits.{most_hosts};
-ghost use Rattle.vd_deal_needs_laws.specs.Needs.{counts};
+ghost use Rattle.vd_deal_needs.specs.DealNeedsLawsNeeds.{counts};
 ghost use Rattle.vd_deal_needs.specs.Counted.{IsCountable, code_in};
 ghost use Rattle.vd_deal_needs.specs.Needs.{needs_by, needs_of, shared_by};
 
 use crate::counting::count;
 use crate::lists::ItemList;
 use std::alloc::{AllocError, Global};
-use vd_base::HostId;
-use vd_base_lists::Items;
+use vd_base::{HostId, Items};
 use vd_execution::Instr;
 
 /// How many items of each kind a host takes of those that it shares with a peer.

@@ -6,8 +6,8 @@ use Rattle.vd_base.specs.Limits.{most_hosts}
 use Rattle.vd_base_codec.specs.Reading.{first, ◌>>=◌, field}
 use Rattle.vd_base_codec.specs.Exact.{IsAnything, IsExact, IsExactWhole, StopsAt}
 use Rattle.vd_base_codec.proofs.Front.{exact_for, whole_exact, stops_single}
-use Rattle.vd_deal_items.specs.declared.deal.Deal.{Deal}
-use Rattle.vd_deal_keys.specs.declared.secrets.Secrets.{Secrets}
+use Rattle.vd_tape.specs.declared.deal_items.deal.Deal.{Deal}
+use Rattle.vd_channel_crypto.specs.declared.deal_keys.secrets.Secrets.{Secrets}
 use Rattle.vd_tape.specs.Text.{deal_text, list_text, shares_text, IsDealOf}
 use Rattle.vd_tape.specs.Reading.{deal_at}
 use Rattle.vd_tape.proofs.Front.{Fit, fit, is_deal_of, deal_exact}

@@ -4,7 +4,7 @@ use Rattle.std.proofs.lemmas.List.{append-nil}
 use Rattle.vd_base_codec.specs.Reading.{Reading, ◌>>=◌, StopsOrMemory}
 use Rattle.vd_base_codec.specs.declared.fault.CodecFault.{CodecFault}
 use Rattle.vd_base_codec.specs.declared.fault.CodecFault.TheVariants as fault
-use Rattle.vd_deal_items.specs.Validity.{peer_at}
+use Rattle.vd_tape.specs.Validity.{peer_at}
 use Rattle.vd_deal_versions.specs.declared.reading.Linked.{Linked}
 use Rattle.vd_deal_versions.specs.declared.reading.LinkedShare.{LinkedShare}
 use Rattle.vd_deal_versions.specs.Reading.{one_at, linked_at, with_linked, no_links}

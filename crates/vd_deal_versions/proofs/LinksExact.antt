@@ -5,11 +5,11 @@ use Rattle.std.proofs.lemmas.List.{append-nil}
 use Rattle.vd_base_codec.specs.Reading.{◌>>=◌, byte_at}
 use Rattle.vd_base_codec.specs.Exact.{IsAnything, IsExact}
 use Rattle.vd_base_codec.proofs.Front.{done_exact, byte_exact, Picks, then_exact, AreEach, head_or, tail, same_cons, exact_as, some_key, key_exact}
-use Rattle.vd_deal_items.specs.declared.items.Triple.{Triple}
-use Rattle.vd_deal_items.specs.declared.items.PairItem.{PairItem}
-use Rattle.vd_deal_items.specs.Validity.{AreTripleWords, ArePairWords, peer_at}
+use Rattle.vd_tape.specs.declared.deal_items.items.Triple.{Triple}
+use Rattle.vd_tape.specs.declared.deal_items.items.PairItem.{PairItem}
+use Rattle.vd_tape.specs.Validity.{AreTripleWords, ArePairWords, peer_at}
 use Rattle.vd_base_codec.specs.Digits.{IsKey, key_at, key_text}
-use Rattle.vd_deal_keys.specs.declared.secrets.LinkKey.{LinkKey}
+use Rattle.vd_channel_crypto.specs.declared.deal_keys.secrets.LinkKey.{LinkKey}
 use Rattle.vd_tape.specs.declared.reading.Share.{Share}
 use Rattle.vd_tape.specs.declared.reading.Shares.{Shares}
 use Rattle.vd_tape.specs.Text.{share_text}

@@ -1,8 +1,8 @@
 -- A deal alone is read as what its file holds.
 use Rattle.std.proofs.Common.{◌≡◌, ◌≢◌, ◌∙◌, ◌≤◌, ◌<◌, ℕ, List, Option, Some, None, Result, Ok, Err, refl, sym, ap, subst}
 use Rattle.vd_base.specs.Limits.{most_hosts}
-use Rattle.vd_deal_items.specs.declared.deal.Deal.{Deal}
-use Rattle.vd_deal_keys.specs.declared.secrets.Secrets.{Secrets}
+use Rattle.vd_tape.specs.declared.deal_items.deal.Deal.{Deal}
+use Rattle.vd_channel_crypto.specs.declared.deal_keys.secrets.Secrets.{Secrets}
 use Rattle.vd_tape.specs.Text.{IsDealOf}
 use Rattle.vd_base.specs.declared.faults.FileFault.{FileFault}
 use Rattle.vd_base.specs.declared.faults.FileFault.TheVariants.{Memory}

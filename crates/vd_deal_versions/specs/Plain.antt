@@ -2,8 +2,8 @@
 use Rattle.std.specs.Prelude.{◌≡◌, ◌≢◌, ◌↔◌, ℕ, List, Option, Result, Ok, Err}
 use Rattle.vd_base_codec.specs.Reading.{capped}
 use Rattle.vd_base_codec.specs.Exact.{StopsAt}
-use Rattle.vd_deal_items.specs.declared.deal.Deal.{Deal}
-use Rattle.vd_deal_keys.specs.declared.secrets.Secrets.{Secrets}
+use Rattle.vd_tape.specs.declared.deal_items.deal.Deal.{Deal}
+use Rattle.vd_channel_crypto.specs.declared.deal_keys.secrets.Secrets.{Secrets}
 use Rattle.vd_base.specs.declared.faults.FileFault.{FileFault}
 use Rattle.vd_base.specs.declared.faults.FileFault.TheVariants.{Memory}
 use Rattle.vd_deal_versions.specs.declared.dealt.Dealt.{Dealt}

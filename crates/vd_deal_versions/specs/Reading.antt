@@ -2,9 +2,9 @@
 use Rattle.std.specs.Prelude.{ℕ, zero, suc, ◌+◌, ◌-◌, ◌==◌, Bool, List, [], ◌∷◌, Result, Ok, Some, None, codes, slice_index, if◌then◌else◌}
 use Rattle.vd_base_codec.specs.Reading.{Reading, ◌>>=◌, byte_at, literal_at, field}
 use Rattle.vd_base_codec.specs.Exact.{whole}
-use Rattle.vd_deal_items.specs.Validity.{peer_at}
+use Rattle.vd_tape.specs.Validity.{peer_at}
 use Rattle.vd_base_codec.specs.Digits.{key_at}
-use Rattle.vd_deal_keys.specs.declared.secrets.LinkKey.{LinkKey}
+use Rattle.vd_channel_crypto.specs.declared.deal_keys.secrets.LinkKey.{LinkKey}
 use Rattle.vd_tape.specs.Reading.{word_at, list_at, heading_at, share_at, deal_at}
 use Rattle.vd_deal_versions.specs.declared.dealt.SecretDeal.{SecretDeal}
 use Rattle.vd_deal_versions.specs.declared.dealt.Dealt.{Dealt}

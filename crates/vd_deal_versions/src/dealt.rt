@@ -1,7 +1,7 @@
 //! What a deal file holds.
 
-use vd_deal_items::Deal;
-use vd_deal_keys::Secrets;
+use vd_channel_crypto::Secrets;
+use vd_tape::Deal;
 
 /// What a file of version 2 holds: a deal, and what its host knows of the dealing besides.
 #[derive(Drop)]

@@ -8,7 +8,7 @@ ghost use Rattle.vd_deal_versions.specs.Plain.{Accepts, Refuses};
 use crate::files::read_dealt;
 use std::alloc::Global;
 use vd_base::{FileFault, HostId};
-use vd_deal_items::Deal;
+use vd_tape::Deal;
 
 /// The deal of one host among so many, from its file of either version, without what the host knows of the dealing besides.
 ///

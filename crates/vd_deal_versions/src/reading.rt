@@ -6,12 +6,12 @@ ghost use Rattle.vd_deal_versions.specs.Reading.{dealt_at, is_second, front_at, 
 
 use crate::dealt::{Dealt, SecretDeal};
 use std::alloc::Global;
-use vd_base::HostId;
+use vd_base::{HostId, Items};
 use vd_base_codec::{CodecFault, Cursor, Stopped, read_key};
-use vd_base_lists::Items;
-use vd_deal_items::{Deal, PairItem, Triple};
-use vd_deal_keys::{LinkKey, Secrets};
-use vd_tape::{Share, peer, read_heading, read_list, read_plain, read_share};
+use vd_channel_crypto::{LinkKey, Secrets};
+use vd_tape::{
+    Deal, PairItem, Share, Triple, peer, read_heading, read_list, read_plain, read_share,
+};
 
 /// What a host shares with one peer, and the key of the link to it.
 #[derive(Drop)]

@@ -4,14 +4,13 @@ ghost use Rattle.std.specs.Prelude.{◌≡◌, ◌<◌, ◌++◌, Some, IfOk, On
 ghost use Rattle.vd_deal_versions.specs.Text.{front_text, link_text, linked_text, secret_of, secret_text};
 ghost use Rattle.vd_base_codec.specs.Digits.{key_text};
 ghost use Rattle.vd_tape.specs.Text.{share_text};
-ghost use Rattle.vd_deal_items.specs.Validity.{peer_at};
+ghost use Rattle.vd_tape.specs.Validity.{peer_at};
 
 use std::alloc::{AllocError, Global};
 use vd_base::Bytes;
 use vd_base_codec::{push_field, push_key};
-use vd_deal_items::{Deal, PairItem, Triple};
-use vd_deal_keys::{LinkKey, Secrets};
-use vd_tape::{push_heading, push_list, push_share};
+use vd_channel_crypto::{LinkKey, Secrets};
+use vd_tape::{Deal, PairItem, Triple, push_heading, push_list, push_share};
 
 /// The one text of a deal and of what its host knows of the dealing besides.
 pub fn write_secret(alloc: Global, deal: &Deal, secrets: &Secrets) -> Result<Bytes, AllocError>

@@ -1,6 +1,6 @@
 -- Remarks on a file, and what is printed of them.
 use Rattle.std.specs.Prelude.{ℕ, Bool, List, ◌++◌, Option, Some, None, codes}
-use Rattle.vd_diag_place.specs.Excerpts.{excerpt}
+use Rattle.vd_diag.specs.Excerpts.{excerpt}
 use Rattle.vd_diag.specs.Parts.{three}
 use Rattle.vd_diag.specs.declared.remark.Remark.{Remark}
 

@@ -2,6 +2,7 @@
 //! need nothing of a source.
 #![tactic(auto)]
 
+mod diag_place;
 mod fault;
 mod files;
 mod parts;
@@ -10,6 +11,7 @@ mod tables;
 mod telling;
 mod usage;
 
+pub use diag_place::{excerpt, line_behind, line_number};
 pub use fault::TellFault;
 pub use files::{
     certificate_sentence, deal_sentence, host_sentence, inputs_sentence, no_assignment_sentence,

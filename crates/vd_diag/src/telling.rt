@@ -4,11 +4,11 @@ ghost use Rattle.std.specs.Prelude.{◌≡◌, ◌++◌, IfOk, codes};
 ghost use Rattle.vd_diag.specs.Parts.{three as three_parts};
 ghost use Rattle.vd_diag.specs.Remarks.{told};
 
+use crate::diag_place::excerpt;
 use crate::parts::three;
 use crate::remark::Remark;
 use std::alloc::{AllocError, Global};
 use vd_base::Bytes;
-use vd_diag_place::excerpt;
 
 /// What is printed of a remark on a file of these bytes: of an offset its line and column, the sentence, and the line with a
 /// caret below it; else the file's name and the sentence.

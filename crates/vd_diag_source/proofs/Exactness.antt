@@ -4,11 +4,11 @@ use Rattle.std.specs.Prelude.{IfOk, IfErr, IsTrue, ◌==◌}
 use Rattle.std.proofs.lemmas.List.{length-map}
 use Rattle.std.proofs.lemmas.Bool.{cases_lt, cases_Bool}
 use Rattle.vd_base.specs.Limits.{most_source_bytes}
-use Rattle.vd_source_ll1.specs.Grammar.{Ebnf, Spells, Starts}
-use Rattle.vd_source_ll1.specs.Machine.{run}
-use Rattle.vd_source_ll1.specs.Laws.{Taken}
-use Rattle.vd_source_ll1.specs.Trees.{Both}
-use Rattle.vd_source_ll1.proofs.Front.{exact, fronts, texts_trees}
+use Rattle.vd_source_lexer.specs.Grammar.{Ebnf, Spells, Starts}
+use Rattle.vd_source_lexer.specs.Machine.{run}
+use Rattle.vd_source_lexer.specs.Laws.{Taken}
+use Rattle.vd_source_lexer.specs.Trees.{Both}
+use Rattle.vd_source_lexer.proofs.Front.{exact, fronts, texts_trees}
 use Rattle.vd_core.specs.declared.source.Source.{Source}
 use Rattle.vd_source_lexer.specs.Kinds.{code_of}
 use Rattle.vd_source_lexer.specs.Tokens.{kinds, Lexes}
@@ -23,7 +23,7 @@ use Rattle.vd_parser.specs.Nesting.{open_behind, NoneTooDeep}
 use Rattle.vd_parser.specs.Whole.{NoEnd}
 use Rattle.vd_parser.specs.Outcomes.{sentence, BeginSource, IsSource, IsUnexpected, IsTooDeep, IsParse}
 use Rattle.vd_parser.proofs.Front.{F, E, language_ll1, kinds-append, take_at, take_front, begins_less, is_too_deep, first_deep_from, first_deep, deep_here, deep_step, none_deep, scan_none}
-use Rattle.vd_source_spelling.specs.Spelled.{HasNoEnd, spelled, HasKinds}
+use Rattle.vd_source_lexer.specs.Spelled.{HasNoEnd, spelled, HasKinds}
 use Rattle.vd_diag_source.specs.Following.{GoesOn, goes_on, through, IsTooLong}
 use Rattle.vd_diag_source.specs.Judging.{judged}
 use Rattle.vd_diag_source.specs.declared.follow.FollowFault.{FollowFault}

@@ -1,14 +1,14 @@
 -- The kinds of tokens with which a source goes on.
 use Rattle.std.specs.Prelude.{ℕ, ◌<◌, Bool, is_ok, nat_eq, if◌then◌else◌, List, [], ◌∷◌, ◌++◌, filter, length, map}
 use Rattle.vd_base.specs.Limits.{most_source_bytes}
-use Rattle.vd_source_ll1.specs.Grammar.{Starts}
-use Rattle.vd_source_ll1.specs.Machine.{firsts, run}
+use Rattle.vd_source_lexer.specs.Grammar.{Starts}
+use Rattle.vd_source_lexer.specs.Machine.{firsts, run}
 use Rattle.vd_source_lexer.specs.Kinds.{code_of}
 use Rattle.vd_source_lexer.specs.Tokens.{kinds}
 use Rattle.vd_source_lexer.specs.declared.token.Token.{Token}
 use Rattle.vd_source_lexer.specs.declared.token.TokenKind.{TokenKind}
-use Rattle.vd_source_spelling.specs.Kinds.{all_kinds}
-use Rattle.vd_source_spelling.specs.Spelled.{spelled}
+use Rattle.vd_source_lexer.specs.SourceSpellingKinds.{all_kinds}
+use Rattle.vd_source_lexer.specs.Spelled.{spelled}
 use Rattle.vd_parser.specs.Language.{Symbol, rule}
 use Rattle.vd_parser.specs.Outcomes.{sentence}
 

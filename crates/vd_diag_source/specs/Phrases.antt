@@ -4,7 +4,7 @@ use Rattle.vd_source_lexer.specs.Kinds.{code_of}
 use Rattle.vd_source_lexer.specs.declared.token.TokenKind.{TokenKind}
 use Rattle.vd_source_lexer.specs.declared.token.TokenKind.TheVariants as kind
 use Rattle.vd_source_lexer.specs.declared.token.Token.{Token}
-use Rattle.vd_source_spelling.specs.Texts.{text_of_kind}
+use Rattle.vd_source_lexer.specs.Texts.{text_of_kind}
 use Rattle.vd_diag.specs.Parts.{three, quoted, word_at}
 
 abbrev pub is_kind : TokenKind → TokenKind → Bool

@@ -6,7 +6,7 @@ use Rattle.vd_resolve.specs.declared.fault.Quantity.{Quantity}
 use Rattle.vd_resolve.specs.declared.fault.Quantity.TheVariants as quantity
 use Rattle.vd_resolve.specs.declared.fault.NameFault.{NameFault}
 use Rattle.vd_resolve.specs.declared.fault.NameFault.TheVariants as fault
-use Rattle.vd_diag_place.specs.Lines.{line_number}
+use Rattle.vd_diag.specs.Lines.{line_number}
 use Rattle.vd_diag.specs.declared.remark.Remark.{Remark}
 use Rattle.vd_diag.specs.Parts.{three, word_at}
 use Rattle.vd_diag_source.specs.Kinds.{kind_sentence}

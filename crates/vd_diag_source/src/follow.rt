@@ -11,11 +11,10 @@ ghost use Rattle.vd_parser.specs.Whole.{NoEnd};
 
 use std::alloc::{AllocError, Global};
 use thiserror::Error;
-use vd_base_lists::Items;
+use vd_base::Items;
 use vd_core::Source;
 use vd_parser::{ParseFault, parse};
-use vd_source_lexer::{Token, TokenKind};
-use vd_source_spelling::{all_kinds, spell};
+use vd_source_lexer::{Token, TokenKind, all_kinds, spell};
 
 /// Why it is not told which tokens a source goes on with.
 #[derive(Clone, Copy, PartialEq, Eq, Debug, Error)]

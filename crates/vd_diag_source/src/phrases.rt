@@ -7,8 +7,7 @@ ghost use Rattle.vd_diag_source.specs.Phrases as phrases;
 use std::alloc::{AllocError, Global};
 use vd_base::Bytes;
 use vd_diag::{three, word_at};
-use vd_source_lexer::{Token, TokenKind};
-use vd_source_spelling::text_of;
+use vd_source_lexer::{Token, TokenKind, text_of};
 
 fn is(kind: TokenKind, other: TokenKind) -> bool
     ensures { result ≡ phrases.is_kind kind other }

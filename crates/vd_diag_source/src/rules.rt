@@ -8,8 +8,7 @@ use itoa::Buffer;
 use std::alloc::{AllocError, Global};
 use vd_base::limits::{CELLS, HOSTS, NESTING, PRINCIPALS, STATEMENTS, WEIGHTS};
 use vd_base::{Bytes, Span};
-use vd_diag::{Remark, TellFault, three, word_at};
-use vd_diag_place::line_number;
+use vd_diag::{Remark, TellFault, line_number, three, word_at};
 use vd_resolve::{NameFault, Quantity};
 
 /// What is counted.

@@ -2,3 +2,9 @@ mod Least
 mod Parts
 mod Others
 mod Looks
+mod Candidates
+mod Told
+mod Searched
+mod Seen
+mod Arms
+mod Pure

@@ -2,8 +2,8 @@
 use Rattle.std.proofs.Common.{◌≡◌, ℕ, Bool, List, [], Option, Some, None, refl, subst}
 use Rattle.vd_core.specs.declared.normal.NormalForm.{NormalForm}
 use Rattle.vd_space.specs.declared.problem.Problem.{Problem}
-use Rattle.vd_diag_choice.specs.Spaces.{IsSpaceFor}
-use Rattle.vd_diag_branches.specs.Phrases.{IsBranchRemark}
+use Rattle.vd_diag_terminal.specs.Spaces.{IsSpaceFor}
+use Rattle.vd_diag_terminal.specs.DiagBranchesPhrases.{IsBranchRemark}
 use Rattle.vd_constraints.specs.declared.labels.Labels.{Labels}
 use Rattle.vd_cmd_plan.specs.Labelled.{LabelledForm}
 use Rattle.vd_cmd_plan.specs.declared.status.Status.{Status}

@@ -4,3 +4,13 @@ pub mod Files
 pub mod Alone
 pub mod Said
 pub mod Saying
+pub mod Phrases
+pub mod FlowSentences
+pub mod Flow
+pub mod Spaces
+pub mod Bare
+pub mod Sentences
+pub mod DiagChoiceRemarks
+pub mod Spent
+pub mod Barriers
+pub mod DiagBranchesPhrases

@@ -2,11 +2,11 @@
 use Rattle.std.specs.Prelude.{◌≡◌, ℕ, Option, Some, None}
 use Rattle.vd_space.specs.declared.problem.Problem.{Problem}
 use Rattle.vd_cmd_plan.specs.Labelled.{LabelledForm}
-use Rattle.vd_diag_branches.specs.Phrases.{IsBranchRemark}
+use Rattle.vd_diag_terminal.specs.DiagBranchesPhrases.{IsBranchRemark}
 use Rattle.vd_diag.specs.declared.remark.Remark.{Remark}
-use Rattle.vd_diag_choice.specs.Remarks.{IsNoAssignmentRemark}
-use Rattle.vd_diag_choice.specs.Spaces.{IsSpaceFor}
-use Rattle.vd_diag_choice.specs.Spent.{TellsSearch}
+use Rattle.vd_diag_terminal.specs.DiagChoiceRemarks.{IsNoAssignmentRemark}
+use Rattle.vd_diag_terminal.specs.Spaces.{IsSpaceFor}
+use Rattle.vd_diag_terminal.specs.Spent.{TellsSearch}
 
 abbrev pub SaysOne : {A : Type 0} → (A → Remark → Type 0) → A → Option Remark → Type 0
 SaysOne Says a None = ⊥

@@ -1,6 +1,6 @@
 -- What is said of a status that speaks of the file with these bytes.
 use Rattle.std.specs.Prelude.{◌≡◌, ℕ, List, Option, Some, None}
-use Rattle.vd_diag_flow.specs.Flow.{flow_remark}
+use Rattle.vd_diag_terminal.specs.Flow.{flow_remark}
 use Rattle.vd_report.specs.declared.fault.ReadFault.{ReadFault}
 use Rattle.vd_report.specs.declared.fault.ReadFault.TheVariants as read_fault
 use Rattle.vd_cmd_plan.specs.declared.status.FlowFault.{FlowFault}

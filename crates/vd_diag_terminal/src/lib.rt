@@ -2,10 +2,18 @@
 #![tactic(auto)]
 
 mod alone;
+mod diag_branches;
+mod diag_choice;
+mod diag_flow;
 mod files;
 mod programs;
 mod remarks;
 mod telling;
 mod words;
 
+pub use diag_branches::{barriers_are_what_is_not_pure, branch_remark};
+pub use diag_choice::{
+    no_assignment_remark, search_sentence, space_for, valid_lists_stand_at_candidates,
+};
+pub use diag_flow::flow_remark;
 pub use telling::{Destination, say_more};

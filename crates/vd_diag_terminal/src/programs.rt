@@ -3,11 +3,11 @@
 ghost use Rattle.std.specs.Prelude.{IfOk};
 ghost use Rattle.vd_diag_terminal.specs.Programs as programs;
 
+use crate::diag_branches::branch_remark;
+use crate::diag_choice::{no_assignment_remark, search_sentence, space_for};
 use std::alloc::Global;
 use vd_cmd_plan::Labelled;
 use vd_diag::{Remark, TellFault};
-use vd_diag_branches::branch_remark;
-use vd_diag_choice::{no_assignment_remark, search_sentence, space_for};
 
 /// The remark on the slots of a program for which no choice of protocols is valid.
 fn remark_on_slots(alloc: Global, found: &Labelled) -> Result<Option<Remark>, TellFault>

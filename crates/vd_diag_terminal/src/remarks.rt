@@ -6,12 +6,12 @@ ghost use Rattle.vd_diag_source.specs.Rules.{IsRuleRemark};
 ghost use Rattle.vd_diag_terminal.specs.Programs.{SaysOne};
 ghost use Rattle.vd_diag_terminal.specs.Remarks as remarks;
 
+use crate::diag_flow::flow_remark;
 use crate::programs::{remark_on_assignment, remark_on_search};
 use std::alloc::Global;
 use vd_base::Bytes;
 use vd_cmd_plan::{FlowFault, Status};
 use vd_diag::{Remark, TellFault, host_sentence, inputs_sentence, schedule_sentence};
-use vd_diag_flow::flow_remark;
 use vd_diag_source::{rule_remark, syntax_remark};
 use vd_report::ReadFault;
 use vd_resolve::NameFault;

@@ -5,3 +5,7 @@ pub mod Runs
 pub mod Layout
 pub mod Dearest
 pub mod Titles
+pub mod Classes
+pub mod Tags
+pub mod Documents
+pub mod Escapes

@@ -8,8 +8,7 @@ ghost use Rattle.vd_base.specs.Limits.{most_hosts};
 ghost use Rattle.vd_draw_layout.specs.Lanes as lanes_spec;
 
 use std::alloc::{AllocError, Global};
-use vd_base::{HostId, HostSet, Proto, is_same};
-use vd_base_lists::Items;
+use vd_base::{HostId, HostSet, Items, Proto, is_same};
 use vd_draw_rows::{Move, Row};
 use vd_protocol::protocols;
 

@@ -3,6 +3,7 @@
 #![tactic(auto)]
 
 mod dearest;
+mod draw_svg;
 mod lanes;
 mod layout;
 mod numbers;
@@ -11,6 +12,7 @@ mod titles;
 mod words;
 
 pub use dearest::dear_place;
+pub use draw_svg::{Area, Mark, Place, Shape, Stroke, Style, document, escaped_texts_have_no_tags};
 pub use lanes::{Lane, lane_x, push_x, set_x};
 pub use layout::{Layout, indent, label_texts, layout_of, name_length};
 pub use numbers::cost_of;

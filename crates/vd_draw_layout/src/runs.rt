@@ -6,8 +6,7 @@ ghost use Rattle.vd_draw_layout.specs.Runs as runs;
 use crate::numbers::cost_of;
 use crate::words::push_number;
 use std::alloc::{AllocError, Global};
-use vd_base::{Bytes, Proto, is_same};
-use vd_base_lists::Items;
+use vd_base::{Bytes, Items, Proto, is_same};
 use vd_draw_rows::{Kind, Row, is_seen};
 
 /// A row of the drawing: the last of the rows that are drawn as one.

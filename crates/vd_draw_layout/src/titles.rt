@@ -7,8 +7,7 @@ ghost use Rattle.vd_draw_layout.specs.Titles as titles;
 use crate::numbers::cost_of;
 use crate::words::{arrow_text, protocol_name, push_number};
 use std::alloc::{AllocError, Global};
-use vd_base::{Bytes, Names, Proto, SlotId};
-use vd_base_lists::Items;
+use vd_base::{Bytes, Items, Names, Proto, SlotId};
 use vd_core::Slot;
 use vd_draw_rows::{Move, Row, arrow_of, slot_name};
 

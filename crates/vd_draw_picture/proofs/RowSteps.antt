@@ -2,7 +2,7 @@
 use Rattle.std.proofs.Common.{◌≡◌, ℕ, ◌+◌, ◌-◌, ◌<◌, List, ◌∷◌, ◌++◌, length, take, drop, slice_index_or, add-one, drop-cons, length-drop, ap, sym, subst, ◌∙◌, append_assoc}
 use Rattle.std.proofs.Math.Seq.{take-length}
 use Rattle.vd_core.specs.declared.normal.Slot.{Slot}
-use Rattle.vd_draw_svg.specs.declared.marks.Mark.{Mark}
+use Rattle.vd_draw_layout.specs.declared.draw_svg.marks.Mark.{Mark}
 use Rattle.vd_draw_rows.specs.declared.row.Row.{Row}
 use Rattle.vd_draw_layout.specs.declared.layout.Layout.{Layout}
 use Rattle.vd_draw_layout.specs.Numbers.{plus}

@@ -2,9 +2,9 @@
 use Rattle.std.specs.Prelude.{ℕ, ◌-◌, ◌/◌, max, Bool, if◌then◌else◌, Option, Some, None, List, [], ◌∷◌, ◌++◌, codes}
 use Rattle.std.specs.List.{flat_map}
 use Rattle.vd_core.specs.declared.normal.Slot.{Slot}
-use Rattle.vd_draw_svg.specs.declared.classes.Style.TheVariants as style
-use Rattle.vd_draw_svg.specs.declared.marks.Mark.{Mark}
-use Rattle.vd_draw_svg.specs.declared.marks.Mark.TheVariants as mark
+use Rattle.vd_draw_layout.specs.declared.draw_svg.classes.Style.TheVariants as style
+use Rattle.vd_draw_layout.specs.declared.draw_svg.marks.Mark.{Mark}
+use Rattle.vd_draw_layout.specs.declared.draw_svg.marks.Mark.TheVariants as mark
 use Rattle.vd_draw_rows.specs.declared.row.Line.{Line}
 use Rattle.vd_draw_rows.specs.declared.row.Row.{Row}
 use Rattle.vd_draw_layout.specs.declared.lanes.Lane.{Lane}

@@ -5,12 +5,12 @@ use Rattle.vd_base.specs.declared.protocols.Proto.{Proto}
 use Rattle.vd_base.specs.declared.protocols.Proto.TheVariants.{Local, Rep, Add, Xor}
 use Rattle.vd_base.specs.HostSets.{has_host}
 use Rattle.vd_core.specs.declared.normal.Slot.{Slot}
-use Rattle.vd_draw_svg.specs.declared.classes.Stroke.{Stroke}
-use Rattle.vd_draw_svg.specs.declared.classes.Stroke.TheVariants as stroke
-use Rattle.vd_draw_svg.specs.declared.classes.Style.TheVariants as style
-use Rattle.vd_draw_svg.specs.declared.marks.Mark.{Mark}
-use Rattle.vd_draw_svg.specs.declared.marks.Mark.TheVariants.{Text, Line}
-use Rattle.vd_draw_svg.specs.declared.marks.Place.{Place}
+use Rattle.vd_draw_layout.specs.declared.draw_svg.classes.Stroke.{Stroke}
+use Rattle.vd_draw_layout.specs.declared.draw_svg.classes.Stroke.TheVariants as stroke
+use Rattle.vd_draw_layout.specs.declared.draw_svg.classes.Style.TheVariants as style
+use Rattle.vd_draw_layout.specs.declared.draw_svg.marks.Mark.{Mark}
+use Rattle.vd_draw_layout.specs.declared.draw_svg.marks.Mark.TheVariants.{Text, Line}
+use Rattle.vd_draw_layout.specs.declared.draw_svg.marks.Place.{Place}
 use Rattle.vd_draw_rows.specs.declared.row.Arrow.{Arrow}
 use Rattle.vd_draw_rows.specs.declared.row.Arrow.TheVariants as arrow
 use Rattle.vd_draw_rows.specs.declared.row.Move.{Move}

@@ -3,13 +3,13 @@ use Rattle.std.specs.Prelude.{ℕ, ◌-◌, ◌/◌, max, nat_lt, ◌==◌, if�
 use Rattle.std.specs.List.{flat_map}
 use Rattle.vd_base.specs.declared.protocols.Proto.{Proto}
 use Rattle.vd_base.specs.declared.protocols.Proto.TheVariants.{Local}
-use Rattle.vd_draw_svg.specs.declared.classes.Area.TheVariants as area
-use Rattle.vd_draw_svg.specs.declared.classes.Stroke.{Stroke}
-use Rattle.vd_draw_svg.specs.declared.classes.Stroke.TheVariants as stroke
-use Rattle.vd_draw_svg.specs.declared.classes.Style.{Style}
-use Rattle.vd_draw_svg.specs.declared.classes.Style.TheVariants as style
-use Rattle.vd_draw_svg.specs.declared.marks.Mark.{Mark}
-use Rattle.vd_draw_svg.specs.declared.marks.Mark.TheVariants as mark
+use Rattle.vd_draw_layout.specs.declared.draw_svg.classes.Area.TheVariants as area
+use Rattle.vd_draw_layout.specs.declared.draw_svg.classes.Stroke.{Stroke}
+use Rattle.vd_draw_layout.specs.declared.draw_svg.classes.Stroke.TheVariants as stroke
+use Rattle.vd_draw_layout.specs.declared.draw_svg.classes.Style.{Style}
+use Rattle.vd_draw_layout.specs.declared.draw_svg.classes.Style.TheVariants as style
+use Rattle.vd_draw_layout.specs.declared.draw_svg.marks.Mark.{Mark}
+use Rattle.vd_draw_layout.specs.declared.draw_svg.marks.Mark.TheVariants as mark
 use Rattle.vd_draw_layout.specs.declared.lanes.Lane.{Lane}
 use Rattle.vd_draw_layout.specs.declared.layout.Layout.{Layout}
 use Rattle.vd_draw_layout.specs.declared.runs.Drawn.{Drawn}

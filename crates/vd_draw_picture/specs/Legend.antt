@@ -1,9 +1,9 @@
 -- What arrows mean, at the foot: the kinds that occur.
 use Rattle.std.specs.Prelude.{ℕ, Bool, ◌&&◌, ◌==◌, if◌then◌else◌, List, [], ◌∷◌, ◌++◌, codes}
 use Rattle.std.specs.List.{list_any}
-use Rattle.vd_draw_svg.specs.declared.classes.Style.TheVariants as style
-use Rattle.vd_draw_svg.specs.declared.marks.Mark.{Mark}
-use Rattle.vd_draw_svg.specs.declared.marks.Mark.TheVariants as mark
+use Rattle.vd_draw_layout.specs.declared.draw_svg.classes.Style.TheVariants as style
+use Rattle.vd_draw_layout.specs.declared.draw_svg.marks.Mark.{Mark}
+use Rattle.vd_draw_layout.specs.declared.draw_svg.marks.Mark.TheVariants as mark
 use Rattle.vd_draw_rows.specs.declared.row.Arrow.{Arrow}
 use Rattle.vd_draw_rows.specs.declared.row.Arrow.TheVariants.{Clear, Checked, Opened, Revealed, Shared, Committed, Converted, Stays}
 use Rattle.vd_draw_rows.specs.declared.row.Move.{Move}

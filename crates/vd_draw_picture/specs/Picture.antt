@@ -4,11 +4,11 @@ use Rattle.std.specs.Prelude.{ℕ, List, [], ◌∷◌, ◌++◌, length, codes}
 use Rattle.vd_base.specs.declared.protocols.Proto.{Proto}
 use Rattle.vd_core.specs.declared.normal.NormalForm.{NormalForm}
 use Rattle.vd_constraints.specs.declared.labels.Labels.{Labels}
-use Rattle.vd_draw_svg.specs.declared.classes.Area.TheVariants as area
-use Rattle.vd_draw_svg.specs.declared.classes.Style.TheVariants as style
-use Rattle.vd_draw_svg.specs.declared.marks.Mark.{Mark}
-use Rattle.vd_draw_svg.specs.declared.marks.Mark.TheVariants as mark
-use Rattle.vd_draw_svg.specs.Documents.{document_text}
+use Rattle.vd_draw_layout.specs.declared.draw_svg.classes.Area.TheVariants as area
+use Rattle.vd_draw_layout.specs.declared.draw_svg.classes.Style.TheVariants as style
+use Rattle.vd_draw_layout.specs.declared.draw_svg.marks.Mark.{Mark}
+use Rattle.vd_draw_layout.specs.declared.draw_svg.marks.Mark.TheVariants as mark
+use Rattle.vd_draw_layout.specs.Documents.{document_text}
 use Rattle.vd_draw_rows.specs.declared.row.Arrow.{Arrow}
 use Rattle.vd_draw_rows.specs.declared.row.Row.{Row}
 use Rattle.vd_draw_rows.specs.Rows.{rows_of}

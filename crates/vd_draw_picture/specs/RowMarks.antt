@@ -5,16 +5,16 @@ use Rattle.vd_base.specs.declared.protocols.Proto.{Proto}
 use Rattle.vd_base.specs.declared.protocols.Proto.TheVariants.{Local, Rep, Commit, Add, Xor}
 use Rattle.vd_base.specs.HostSets.{has_host}
 use Rattle.vd_core.specs.declared.normal.Slot.{Slot}
-use Rattle.vd_draw_svg.specs.declared.classes.Area.{Area}
-use Rattle.vd_draw_svg.specs.declared.classes.Area.TheVariants as area
-use Rattle.vd_draw_svg.specs.declared.classes.Shape.{Shape}
-use Rattle.vd_draw_svg.specs.declared.classes.Shape.TheVariants as shape
-use Rattle.vd_draw_svg.specs.declared.classes.Stroke.TheVariants as stroke
-use Rattle.vd_draw_svg.specs.declared.classes.Style.{Style}
-use Rattle.vd_draw_svg.specs.declared.classes.Style.TheVariants as style
-use Rattle.vd_draw_svg.specs.declared.marks.Mark.{Mark}
-use Rattle.vd_draw_svg.specs.declared.marks.Mark.TheVariants as mark
-use Rattle.vd_draw_svg.specs.declared.marks.Place.{Place}
+use Rattle.vd_draw_layout.specs.declared.draw_svg.classes.Area.{Area}
+use Rattle.vd_draw_layout.specs.declared.draw_svg.classes.Area.TheVariants as area
+use Rattle.vd_draw_layout.specs.declared.draw_svg.classes.Shape.{Shape}
+use Rattle.vd_draw_layout.specs.declared.draw_svg.classes.Shape.TheVariants as shape
+use Rattle.vd_draw_layout.specs.declared.draw_svg.classes.Stroke.TheVariants as stroke
+use Rattle.vd_draw_layout.specs.declared.draw_svg.classes.Style.{Style}
+use Rattle.vd_draw_layout.specs.declared.draw_svg.classes.Style.TheVariants as style
+use Rattle.vd_draw_layout.specs.declared.draw_svg.marks.Mark.{Mark}
+use Rattle.vd_draw_layout.specs.declared.draw_svg.marks.Mark.TheVariants as mark
+use Rattle.vd_draw_layout.specs.declared.draw_svg.marks.Place.{Place}
 use Rattle.vd_draw_rows.specs.declared.row.Kind.{Kind}
 use Rattle.vd_draw_rows.specs.declared.row.Kind.TheVariants as kind
 use Rattle.vd_draw_rows.specs.declared.row.Line.{Line}

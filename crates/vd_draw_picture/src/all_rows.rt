@@ -12,9 +12,10 @@ use crate::row_marks::{
 };
 use std::alloc::{AllocError, Global};
 use vd_base::{Bytes, Names};
-use vd_draw_layout::{Lane, Layout, cost_of, cut, goes_on, push_number, push_row_title};
+use vd_draw_layout::{
+    Lane, Layout, Mark, Place, Style, cost_of, cut, goes_on, push_number, push_row_title,
+};
 use vd_draw_rows::{Line, Row};
-use vd_draw_svg::{Mark, Place, Style};
 
 /// Rows that are drawn as one: how many, what they cost, and their titles.
 #[derive(Drop)]

@@ -8,12 +8,10 @@ ghost use Rattle.vd_draw_picture.specs.Arrows as arrows;
 ghost use Rattle.vd_draw_layout.specs.Lanes.{hosts_x};
 
 use std::alloc::{AllocError, Global};
-use vd_base::{Bytes, HostId, HostSet, Proto};
-use vd_base_lists::Items;
+use vd_base::{Bytes, HostId, HostSet, Items, Proto};
 use vd_core::Slot;
-use vd_draw_layout::{Lane, cut, lane_x, push_x, set_x};
+use vd_draw_layout::{Lane, Mark, Place, Stroke, Style, cut, lane_x, push_x, set_x};
 use vd_draw_rows::{Arrow, Move, arrow_of, is_seen, is_told, slot_name};
-use vd_draw_svg::{Mark, Place, Stroke, Style};
 
 /// Marks in order.
 pub(crate) type Marks = Items<Mark>;

@@ -8,10 +8,9 @@ use crate::arrows::Marks;
 use std::alloc::{AllocError, Global};
 use vd_base::{Bytes, Names, Proto};
 use vd_draw_layout::{
-    Drawn, Lane, Layout, cut, dear_place, name_length, printable, protocol_kind, protocol_name,
-    push_number,
+    Area, Drawn, Lane, Layout, Mark, Place, Stroke, Style, cut, dear_place, name_length, printable,
+    protocol_kind, protocol_name, push_number,
 };
-use vd_draw_svg::{Area, Mark, Place, Stroke, Style};
 
 /// A text at a place.
 fn text(style: Style, x: u64, y: u64, said: Bytes) -> Mark

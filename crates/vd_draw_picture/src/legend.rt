@@ -5,10 +5,9 @@ ghost use Rattle.vd_draw_picture.specs.Legend as legends;
 
 use crate::arrows::{Marks, push_line};
 use std::alloc::{AllocError, Global};
-use vd_base::Bytes;
-use vd_base_lists::Items;
+use vd_base::{Bytes, Items};
+use vd_draw_layout::{Mark, Place, Style};
 use vd_draw_rows::{Arrow, Move, Row, arrow_of, is_seen};
-use vd_draw_svg::{Mark, Place, Style};
 
 /// The place of a kind of arrows in the legend.
 fn order(arrow: Arrow) -> u8

@@ -10,13 +10,11 @@ use crate::heads::{push_all_lanes, push_columns, push_title, width_of};
 use crate::legend::{kinds_of, push_meanings};
 use crate::row_marks::{Scene, height_inside};
 use std::alloc::{AllocError, Global};
-use vd_base::{Bytes, Proto};
-use vd_base_lists::Items;
+use vd_base::{Bytes, Items, Proto};
 use vd_constraints::Labels;
 use vd_core::{NormalForm, Program};
-use vd_draw_layout::{Layout, label_texts, layout_of};
+use vd_draw_layout::{Area, Layout, Mark, Place, Style, document, label_texts, layout_of};
 use vd_draw_rows::{Arrow, Row, rows_of};
-use vd_draw_svg::{Area, Mark, Place, Style, document};
 
 /// Where the rows end.
 fn bottom_of(rows: &[Row]) -> u64

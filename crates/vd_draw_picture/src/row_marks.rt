@@ -6,15 +6,13 @@ ghost use Rattle.vd_draw_picture.specs.RowMarks as row_marks;
 
 use crate::arrows::{Ground, Marks, push_arrows, xs_of_lane};
 use std::alloc::{AllocError, Global};
-use vd_base::{Bytes, Names, Proto};
-use vd_base_lists::Items;
+use vd_base::{Bytes, Items, Names, Proto};
 use vd_core::Slot;
 use vd_draw_layout::{
-    Lane, Layout, arrows_of, cut, dear_place, drawn_text, goes_on, indent, label_at, protocol_name,
-    push_number, set_x,
+    Area, Lane, Layout, Mark, Place, Shape, Stroke, Style, arrows_of, cut, dear_place, drawn_text,
+    goes_on, indent, label_at, protocol_name, push_number, set_x,
 };
 use vd_draw_rows::{Kind, Line, Row};
-use vd_draw_svg::{Area, Mark, Place, Shape, Stroke, Style};
 
 /// What is known of all rows: the columns, the names of the hosts, the slots, and their labels as they are printed.
 #[derive(Clone, Copy)]

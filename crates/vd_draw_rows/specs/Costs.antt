@@ -4,7 +4,7 @@ use Rattle.vd_base.specs.declared.protocols.Proto.{Proto}
 use Rattle.vd_core.specs.declared.normal.NormalForm.{NormalForm}
 use Rattle.vd_constraints.specs.declared.labels.Labels.{Labels}
 use Rattle.vd_space.specs.Reading.{problem_of}
-use Rattle.vd_space_optimum.specs.Cheapest.{IsAssignment, cost_of}
+use Rattle.vd_space.specs.Cheapest.{IsAssignment, cost_of}
 use Rattle.vd_core.specs.Facts.{IsWellMade}
 use Rattle.vd_space.specs.Sizes.{heft}
 use Rattle.vd_draw_rows.specs.declared.row.Move.{Move}

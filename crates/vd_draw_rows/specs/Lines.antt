@@ -1,7 +1,7 @@
 -- Lines of the source.
 use Rattle.std.specs.Prelude.{ℕ, ◌+◌, Bool, false, ◌||◌, ◌&&◌, ◌==◌, nat_lt, if◌then◌else◌, Option, Some, None, List, [], ◌∷◌, ◌++◌, replicate, codes, slice_get}
 use Rattle.std.specs.Str.{bytes_eq}
-use Rattle.vd_diag_place.specs.Lines.{line_behind, line_number}
+use Rattle.vd_diag.specs.Lines.{line_behind, line_number}
 use Rattle.vd_core.specs.declared.normal.Slot.{Slot}
 use Rattle.vd_base.specs.declared.ids.SlotId.{SlotId}
 use Rattle.vd_draw_rows.specs.declared.row.Line.{Line}

@@ -7,7 +7,7 @@ use crate::row::Line;
 use std::alloc::{AllocError, Global};
 use vd_base::{Bytes, SlotId};
 use vd_core::Slot;
-use vd_diag_place::{line_behind, line_number};
+use vd_diag::{line_behind, line_number};
 
 /// Whether a byte is a printable letter of ASCII.
 pub fn is_printable(byte: u8) -> bool

@@ -8,8 +8,7 @@ ghost use Rattle.vd_draw_rows.specs.Moves as moves_spec;
 
 use crate::row::{Arrow, Move};
 use std::alloc::{AllocError, Global};
-use vd_base::{HostId, HostSet, Proto, SlotId, has_clear, is_holder, proto_of};
-use vd_base_lists::Items;
+use vd_base::{HostId, HostSet, Items, Proto, SlotId, has_clear, is_holder, proto_of};
 use vd_core::Right;
 use vd_cost::{move_cost, op_cost};
 

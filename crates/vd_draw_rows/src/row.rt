@@ -1,7 +1,6 @@
 //! What a row of a drawing is.
 
-use vd_base::{Bytes, Proto, SlotId};
-use vd_base_lists::Items;
+use vd_base::{Bytes, Items, Proto, SlotId};
 
 /// How a word goes from one protocol to another: what leaves a host.
 #[derive(Clone, Copy, PartialEq, Eq)]

@@ -15,8 +15,7 @@ use crate::texts::{
     variable_text,
 };
 use std::alloc::{AllocError, Global};
-use vd_base::{Bytes, HostId, Proto, SlotId, proto_of};
-use vd_base_lists::Items;
+use vd_base::{Bytes, HostId, Items, Proto, SlotId, proto_of};
 use vd_core::{NormalForm, Program, Right, Stmt};
 
 /// What stands around a statement: how often it is done, and in how many blocks it stands.

@@ -3,8 +3,7 @@ ghost use Rattle.vd_duet.specs.Builder.{added, marked, reserved, HasRoom, regist
 
 use std::alloc::{AllocError, Global};
 use std::marker::Model;
-use vd_base::HostId;
-use vd_base_lists::Items;
+use vd_base::{HostId, Items};
 use vd_execution::{Act, Line, Reg};
 
 /// Joint code that is being made: its lines so far, and the next free register of each host.

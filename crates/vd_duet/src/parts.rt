@@ -1,8 +1,7 @@
 ghost use Rattle.std.specs.Prelude.{◌≡◌};
 ghost use Rattle.vd_duet.specs.Calls.{in_clear, register_of};
 
-use vd_base::HostId;
-use vd_base_lists::Items;
+use vd_base::{HostId, Items};
 use vd_execution::Reg;
 
 /// A word in clear at one host.

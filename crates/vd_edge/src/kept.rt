@@ -1,7 +1,6 @@
 //! What was read of a file.
 
-use vd_base::{Bytes, Text};
-use vd_base_lists::Items;
+use vd_base::{Bytes, Items, Text};
 
 /// What a file held.
 #[derive(Drop)]

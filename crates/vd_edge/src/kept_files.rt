@@ -10,8 +10,7 @@ use crate::kept::{Reading, Unread};
 use crate::stores::Stores;
 use crate::{Directory, Held, Kept, RealFiles, Wanted};
 use std::alloc::{AllocError, Global};
-use vd_base::{Bytes, CallFault, Text};
-use vd_base_lists::Items;
+use vd_base::{Bytes, CallFault, Items, Text};
 use vd_outside::{FetchFault, Files, FilesCall};
 
 /// Files that are read once, ahead of a run, and then tell what they held. A fetch is answered by what was read, so two

@@ -4,12 +4,12 @@ ghost use Rattle.vd_edge.specs.Duplex.{link_view};
 ghost use Rattle.vd_edge.specs.Net.{net_view};
 ghost use Rattle.vd_outside.specs.Net.{Accepts, Connects, Listens};
 
+use crate::edge_errors::{count_fault, fault_of};
 use crate::peer_reason::{peer_reason, with_cause};
 use crate::{PeerCall, PeerReason, RealLink, Sockets};
 use std::alloc::Global;
 use std::io::Error;
 use vd_base::CallFault;
-use vd_edge_errors::{count_fault, fault_of};
 use vd_outside::{Link, Net};
 
 /// A net over sockets: its listeners, and how often it has failed.

@@ -2,17 +2,16 @@
 
 ghost use Rattle.std.specs.Prelude.{◌≡◌, IsTrue, None, OnErr, OnOk, Some, false, IfOk, string_bytes};
 ghost use Rattle.vd_edge.specs.Store.{Same, SameElse};
-ghost use Rattle.vd_outside_marks.specs.Marks.{Claims, Draws, Releases, Stays};
-ghost use Rattle.vd_outside_marks.specs.Places.{mark_at};
+ghost use Rattle.vd_outside.specs.Marks.{Claims, Draws, Releases, Stays};
+ghost use Rattle.vd_outside.specs.Places.{mark_at};
 ghost use Rattle.vd_edge_marks.specs.Views.{marks_view};
 
 use crate::randomness::Randomness;
 use std::alloc::Global;
 use std::io::{self, Error, ErrorKind};
 use vd_base::CallFault;
-use vd_edge::{Access, Directory};
-use vd_edge_errors::{count_fault, fault_of, reason_of};
-use vd_outside_marks::{Marks, mark_at};
+use vd_edge::{Access, Directory, count_fault, fault_of, reason_of};
+use vd_outside::{Marks, mark_at};
 
 /// Marks as files of a directory, which only their owner may read, and the random bytes that a source gives.
 #[derive(Drop)]

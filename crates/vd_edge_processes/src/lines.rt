@@ -7,7 +7,7 @@ use crate::next::Next;
 use std::alloc::Global;
 use std::io::{ErrorKind, Read};
 use vd_base::{Bytes, CallFault};
-use vd_edge_errors::fault_of;
+use vd_edge::fault_of;
 use vd_outside::{LINE_BYTES, Line};
 
 /// The most bytes that a host writes: 65,538 lines, each with its line feed.

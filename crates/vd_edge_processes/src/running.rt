@@ -13,7 +13,7 @@ use std::os::unix::net::UnixStream;
 use std::os::unix::process::ExitStatusExt;
 use std::process::{Child, ChildStdout, Command, ExitStatus, Processes, Stdio, SystemProcess};
 use vd_base::{CallFault, Texts};
-use vd_edge_errors::fault_of;
+use vd_edge::fault_of;
 
 /// The variable that tells a child the number of the process that started it.
 pub const PARENT: &str = "VIADUCT_PARENT";

@@ -6,9 +6,8 @@ use std::alloc::Global;
 use std::marker::Model;
 use std::process::{Processes, SystemProcess};
 use std::time::Clock;
-use vd_base::{CallFault, Texts};
-use vd_base_lists::Items;
-use vd_edge_errors::{count_fault, fault_of, reason_of};
+use vd_base::{CallFault, Items, Texts};
+use vd_edge::{count_fault, fault_of, reason_of};
 use vd_outside::{Line, Spawner};
 
 /// The programs that a runtime starts. Contracts see the statuses that are known, and how often it has failed.

@@ -4,8 +4,8 @@ use Rattle.vd_core.specs.declared.source.Statement.{Statement, roll-Statement, m
 use Rattle.vd_core.specs.declared.source.Statement.TheOpen.{Statement-F}
 use Rattle.vd_core.specs.declared.source.Statement.TheFolds.{fold-roll-Statement}
 use Rattle.vd_base.specs.Names.{Named}
-use Rattle.vd_anf.specs.declared.spot.Spot.{Spot}
-use Rattle.vd_anf.specs.Normal.{Inlining, Made, Place, StatementLowering, statement_lowering, lowering_of, statements_made}
+use Rattle.vd_elaborate.specs.declared.anf.spot.Spot.{Spot}
+use Rattle.vd_elaborate.specs.Normal.{Inlining, Made, Place, StatementLowering, statement_lowering, lowering_of, statements_made}
 
 take_front : (xs ys : Named Spot) → take (length xs) (xs ++ ys) ≡ xs
 take_front [] ys = refl

@@ -19,11 +19,11 @@ use Rattle.vd_core.specs.declared.source.Statement.TheOpen.{Statement-F}
 use Rattle.vd_core.specs.declared.source.Statement.TheFolds.{the_lemmas as the_statements}
 use Rattle.vd_core.specs.declared.source.Function.{Function}
 use Rattle.vd_semantics.specs.SourceMeaning.{host_names, parameter_names}
-use Rattle.vd_anf.specs.declared.here.Here.{Here}
-use Rattle.vd_anf.specs.declared.spot.Spot.{Spot}
-use Rattle.vd_anf.specs.declared.spot.Spot.TheVariants.{Binding, Variable, Array}
-use Rattle.vd_anf.specs.Normal.{Made, Place, Lowering, StatementLowering, lowering, expr_lowering, lowering_of_segment, chain_made, all_made, lowering_of, statement_lowering, statements_made, inner_made, loop_made, inlining_of, inlinings_of, prefixes_made, put_made, emitted, emptied, with_slot, named_slot, slot, prefix_op, prefix_kind}
-use Rattle.vd_anf_wellformed.proofs.Front.{size, chain_more, expr_more, exprs_more, statements_more, call_more}
+use Rattle.vd_elaborate.specs.declared.anf.here.Here.{Here}
+use Rattle.vd_elaborate.specs.declared.anf.spot.Spot.{Spot}
+use Rattle.vd_elaborate.specs.declared.anf.spot.Spot.TheVariants.{Binding, Variable, Array}
+use Rattle.vd_elaborate.specs.Normal.{Made, Place, Lowering, StatementLowering, lowering, expr_lowering, lowering_of_segment, chain_made, all_made, lowering_of, statement_lowering, statements_made, inner_made, loop_made, inlining_of, inlinings_of, prefixes_made, put_made, emitted, emptied, with_slot, named_slot, slot, prefix_op, prefix_kind}
+use Rattle.vd_elaborate.proofs.AnfWellformedGrowth.{size, chain_more, expr_more, exprs_more, statements_more, call_more}
 use Rattle.vd_elaborate.specs.Lowered.{Fits}
 
 -- operators before an operand

@@ -3,8 +3,8 @@ use Rattle.std.proofs.Common.{◌≡◌, ℕ, zero, suc, ◌<◌, ◌≤◌, Lis
 use Rattle.vd_core.specs.declared.normal.Slot.{Slot}
 use Rattle.vd_core.specs.declared.source.Ident.{Ident}
 use Rattle.vd_core.specs.declared.source.WrittenLabel.{WrittenLabel}
-use Rattle.vd_anf.specs.declared.here.Here.{Here}
-use Rattle.vd_anf.specs.Normal.{named_slot, renamed}
+use Rattle.vd_elaborate.specs.declared.anf.here.Here.{Here}
+use Rattle.vd_elaborate.specs.Normal.{named_slot, renamed}
 
 -- the slot with the new name
 abbrev pub anew : Slot → Ident → Option WrittenLabel → Slot

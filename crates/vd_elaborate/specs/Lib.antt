@@ -1,2 +1,4 @@
 pub mod Lowered
 pub mod Outputs
+pub mod Normal
+pub mod Calls

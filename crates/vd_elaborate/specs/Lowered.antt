@@ -8,9 +8,9 @@ use Rattle.vd_core.specs.declared.source.Segment.{Segment}
 use Rattle.vd_core.specs.declared.source.Statement.{Statement}
 use Rattle.vd_core.specs.declared.source.Function.{Function}
 use Rattle.vd_semantics.specs.SourceMeaning.{host_names}
-use Rattle.vd_anf.specs.declared.here.Here.{Here}
-use Rattle.vd_anf.specs.declared.spot.Spot.{Spot}
-use Rattle.vd_anf.specs.Normal.{Made, Place, Inlining, lowering, lowering_of_segment, chain_made, all_made, call_made, lowering_of, statements_made, with_body, inner_made, loop_made, inlining_of, inlinings_of}
+use Rattle.vd_elaborate.specs.declared.anf.here.Here.{Here}
+use Rattle.vd_elaborate.specs.declared.anf.spot.Spot.{Spot}
+use Rattle.vd_elaborate.specs.Normal.{Made, Place, Inlining, lowering, lowering_of_segment, chain_made, all_made, call_made, lowering_of, statements_made, with_body, inner_made, loop_made, inlining_of, inlinings_of}
 use Rattle.vd_elaborate.specs.declared.declarations.Declarations.{Declarations}
 
 -- 16 bits number all slots, and all blocks

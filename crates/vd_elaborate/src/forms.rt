@@ -1,11 +1,10 @@
 //! Written formulas and labels, without their places in the text.
 
 ghost use Rattle.std.specs.Prelude.{◌≡◌, IfOk, map, option_map};
-ghost use Rattle.vd_anf.specs.Normal.{form_of, written};
+ghost use Rattle.vd_elaborate.specs.Normal.{form_of, written};
 
 use std::alloc::{AllocError, Global};
-use vd_base::{Form, Name};
-use vd_base_lists::Items;
+use vd_base::{Form, Items, Name};
 use vd_core::{Written, WrittenForm, WrittenLabel};
 
 /// A copy of a name.

@@ -1,6 +1,8 @@
 //! Brings a resolved source into let-normal form.
 #![tactic(auto)]
 
+mod anf;
+mod anf_wellformed;
 mod declarations;
 mod forms;
 mod made;
@@ -8,4 +10,11 @@ mod names;
 mod steps;
 mod walk;
 
+pub use anf::{Here, Spot, outputs_are_kept};
+pub use anf_wellformed::{
+    counts_are_exact, each_host_has_a_label, hosts_are_declared, limits_are_kept,
+    names_are_distinct, normal_form_is_well_made, operands_fit, principals_are_declared,
+    shifts_fit, slots_and_blocks_are_few, slots_are_in_order, slots_are_made_before,
+    turns_stand_in_loops,
+};
 pub use walk::elaborate;

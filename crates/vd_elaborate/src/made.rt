@@ -1,16 +1,15 @@
 //! The statements of a let-normal program as far as they are made.
 
 ghost use Rattle.std.specs.Prelude.{◌≡◌, ◌+◌, [], IfOk, OnOk};
-ghost use Rattle.vd_anf.specs.Normal.{with_slot, with_stmt, with_name_at, with_body, nameless, named_slot, emitted, kind_at, emptied, renamed};
+ghost use Rattle.vd_elaborate.specs.Normal.{with_slot, with_stmt, with_name_at, with_body, nameless, named_slot, emitted, kind_at, emptied, renamed};
 ghost use Rattle.vd_elaborate.specs.Lowered.{Fits, Gives};
 
+use crate::anf::Here;
 use crate::forms::{copy_name, copy_optional};
 use std::alloc::{AllocError, Global};
 use std::marker::Model;
 use std::mem;
-use vd_anf::Here;
-use vd_base::{Kind, SlotId};
-use vd_base_lists::Items;
+use vd_base::{Items, Kind, SlotId};
 use vd_core::{Ident, Right, Slot, Stmt, WrittenLabel};
 
 /// The slots and statements so far, and the numbers of the next slot and block.
@@ -26,7 +25,7 @@ impl Model for Made {
     ghost use Rattle.std.specs.Coded.{codes};
     ghost use Rattle.vd_base.specs.contracts.form.Form as form;
     ghost use Rattle.vd_core.specs.contracts.normal.Stmt as stmt;
-    ghost use Rattle.vd_anf.specs.Normal.{Made as Making};
+    ghost use Rattle.vd_elaborate.specs.Normal.{Made as Making};
 
     ghost Value = { Making };
 

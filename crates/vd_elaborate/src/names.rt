@@ -3,10 +3,10 @@
 ghost use Rattle.std.specs.Prelude.{◌≡◌, IfOk};
 ghost use Rattle.vd_base.specs.Names.{at_name, bound};
 ghost use Rattle.vd_semantics.specs.SourceMeaning.{parameter_names};
-ghost use Rattle.vd_anf.specs.declared.spot.Spot.TheVariants.{Binding};
+ghost use Rattle.vd_elaborate.specs.declared.anf.spot.Spot.TheVariants.{Binding};
 
+use crate::anf::Spot;
 use std::alloc::{AllocError, Global};
-use vd_anf::Spot;
 use vd_base::Scope;
 use vd_core::Parameter;
 

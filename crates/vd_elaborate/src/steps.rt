@@ -2,15 +2,14 @@
 
 ghost use Rattle.std.specs.Prelude.{◌≡◌, [], ◌∷◌, IfOk, OnOk};
 ghost use Rattle.vd_semantics.specs.SourceMeaning.{host_names};
-ghost use Rattle.vd_anf.specs.Normal.{emitted, lowering, infix_right, infix_kind, prefix_op, prefix_kind, prefixes_made, shift_op, name_made, get_made, copied, stored, put_made, scale_of, operation_made, kind_at, two as two_slots};
+ghost use Rattle.vd_elaborate.specs.Normal.{emitted, lowering, infix_right, infix_kind, prefix_op, prefix_kind, prefixes_made, shift_op, name_made, get_made, copied, stored, put_made, scale_of, operation_made, kind_at, two as two_slots};
 ghost use Rattle.vd_elaborate.specs.Lowered.{Fits, Gives};
 
+use crate::anf::{Here, Spot};
 use crate::made::Made;
 use crate::names::spot;
 use std::alloc::{AllocError, Global};
-use vd_anf::{Here, Spot};
-use vd_base::{Kind, Op, Scope, SlotId};
-use vd_base_lists::Items;
+use vd_base::{Items, Kind, Op, Scope, SlotId};
 use vd_core::{Direction, Expr, Host, Infix, Prefix, Right, Sign, Stmt};
 
 pub(crate) fn prefix_operation(op: Prefix) -> Op

@@ -3,10 +3,11 @@
 ghost use Rattle.std.specs.Prelude.{◌≡◌, ◌≤◌, IfOk, OnOk, length, map};
 ghost use Rattle.vd_base.specs.Limits.{most_hosts};
 ghost use Rattle.vd_semantics.specs.SourceMeaning.{host_names};
-ghost use Rattle.vd_anf.specs.Normal.{main_made, host_id, normal_form, written};
+ghost use Rattle.vd_elaborate.specs.Normal.{main_made, host_id, normal_form, written};
 ghost use Rattle.vd_elaborate.specs.Outputs.{KeepsOutputs};
 ghost use Rattle.vd_elaborate.specs.Lowered.{Fits, Gives, lowered, all_lowered, appended, chained, called, entered, place as at, stated, sequenced, inside, both, branched, in_turn, around};
 
+use crate::anf::{Here, Spot};
 use crate::declarations::Declarations;
 use crate::forms::{copy_form, copy_label, copy_name};
 use crate::made::{Made, slot_of_name};
@@ -16,9 +17,7 @@ use crate::steps::{
     put, shift_operation, store,
 };
 use std::alloc::{AllocError, Global};
-use vd_anf::{Here, Spot};
-use vd_base::{HostId, Kind, Names, Op, Scope, SlotId};
-use vd_base_lists::Items;
+use vd_base::{HostId, Items, Kind, Names, Op, Scope, SlotId};
 use vd_core::{
     Expr, Function, Host, Ident, NormalForm, Program, Right, Segment, Source, Statement, Stmt,
     Written,

@@ -1,6 +1,6 @@
 use thiserror::Error;
 use vd_base::HostId;
-use vd_deal_items::DealKind;
+use vd_tape::DealKind;
 
 /// Why a machine did not run to its end.
 #[derive(Clone, Copy, Debug, PartialEq, Eq, Error)]

@@ -4,8 +4,8 @@ use Rattle.vd_base.specs.declared.ids.HostId.{HostId}
 use Rattle.vd_base.specs.declared.protocols.Proto.{Proto}
 use Rattle.vd_core.specs.declared.normal.NormalForm.{NormalForm}
 use Rattle.vd_constraints.specs.declared.labels.Labels.{Labels}
-use Rattle.vd_noninter_difference.specs.Difference.{view_difference, IsDifference}
-use Rattle.vd_noninter_difference.specs.Runs.{Hearer}
+use Rattle.vd_noninter_protocols.specs.Difference.{view_difference, IsDifference}
+use Rattle.vd_noninter_protocols.specs.Runs.{Hearer}
 
 pub differ_at : (p : NormalForm) (x : Hearer) (protocols : List Proto) (h : HostId) (first second : List (List ℕ)) (place : Option ℕ) (l : Labels) → IsDifference p x first second place
     → x ≡ record { protocols = protocols; host = h } → place ≡ view_difference p l protocols h first second

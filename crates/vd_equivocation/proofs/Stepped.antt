@@ -9,10 +9,10 @@ use Rattle.vd_execution.specs.Gadgets.{Gadget}
 use Rattle.vd_execution.specs.Plans.{Plan, joint_of as code}
 use Rattle.vd_execution.specs.Text.{flat}
 use Rattle.vd_projection.specs.Programs.{joint_of}
-use Rattle.vd_equivocation_pairs.specs.ReadOff.{PairsAreReadOff}
-use Rattle.vd_views_programs.specs.Explained.{IsOfTwo, plan_of}
-use Rattle.vd_views_programs.proofs.Front.{Static, plan_is, static, dealt_zeros}
-use Rattle.vd_equivocation_steps.specs.Claims.{CanBeStepped}
+use Rattle.vd_views.specs.ReadOff.{PairsAreReadOff}
+use Rattle.vd_views.specs.Explained.{IsOfTwo, plan_of}
+use Rattle.vd_views.proofs.Front.{Static, plan_is, static, dealt_zeros}
+use Rattle.vd_equivocation.specs.Claims.{CanBeStepped}
 
 can_be_stepped : PairsAreReadOff → (program : NormalForm) (l : Labels) (protocols : List Proto) → IsOfTwo program l protocols → CanBeStepped (plan_of program protocols)
 can_be_stepped read_off program l protocols of_two =

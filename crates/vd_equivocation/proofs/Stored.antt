@@ -3,16 +3,16 @@ use Rattle.std.proofs.Common.{◌≡◌, ℕ, zero, suc, nat_eq, Bool, true, fal
 use Rattle.std.specs.Prelude.{slice_get, unwrap_or}
 use Rattle.std.proofs.lemmas.List.{length-map}
 use Rattle.vd_base.specs.declared.ids.HostId.{HostId}
-use Rattle.vd_deal_items.specs.declared.deal.Deal.{Deal}
-use Rattle.vd_deal_items.specs.Validity.{peer_place}
+use Rattle.vd_tape.specs.declared.deal_items.deal.Deal.{Deal}
+use Rattle.vd_tape.specs.Validity.{peer_place}
 use Rattle.vd_tape.specs.Text.{AreDealsOf}
 use Rattle.vd_execution.specs.Step.{Source, Inputs, OwnWords, Triples, BitTriples, Pairs}
 use Rattle.vd_machine.specs.Machines.{list_of}
-use Rattle.vd_equivocation_laws.specs.declared.step.Step.{Step}
+use Rattle.vd_equivocation_walk.specs.declared.equivocation_laws.step.Step.{Step}
 use Rattle.vd_machine.specs.Dealt.{dealt_count}
-use Rattle.vd_views_deals.specs.Files.{AreAsLong}
-use Rattle.vd_views_deals.proofs.Front.{Part, file, are_two_files}
-use Rattle.vd_equivocation_deals.specs.Excuses.{AreExcused, IsOneOfTwo, both_after}
+use Rattle.vd_views.specs.Files.{AreAsLong}
+use Rattle.vd_views.proofs.Front.{Part, file, are_two_files}
+use Rattle.vd_equivocation.specs.Excuses.{AreExcused, IsOneOfTwo, both_after}
 use Rattle.vd_equivocation_walk.specs.Claims.{EndsWithin, HasSameShape, HaveSameShape}
 use Rattle.vd_equivocation_walk.specs.Files.{AreOfTwo, IsOneOfTwo as IsOne, file_tape}
 

@@ -4,20 +4,20 @@ use Rattle.vd_base.specs.declared.ids.HostId.{HostId}
 use Rattle.vd_base.specs.declared.protocols.Proto.{Proto}
 use Rattle.vd_core.specs.declared.normal.NormalForm.{NormalForm}
 use Rattle.vd_constraints.specs.declared.labels.Labels.{Labels}
-use Rattle.vd_deal_items.specs.declared.deal.Deal.{Deal}
-use Rattle.vd_deal_items.specs.declared.deal.DealKind.{DealKind}
-use Rattle.vd_deal_items.specs.Validity.{IsConsistent}
+use Rattle.vd_tape.specs.declared.deal_items.deal.Deal.{Deal}
+use Rattle.vd_tape.specs.declared.deal_items.deal.DealKind.{DealKind}
+use Rattle.vd_tape.specs.Validity.{IsConsistent}
 use Rattle.vd_tape.specs.Text.{AreDealsOf}
 use Rattle.vd_execution.specs.Gadgets.{Gadget}
 use Rattle.vd_execution.specs.Plans.{Plan}
-use Rattle.vd_equivocation_laws.specs.declared.step.Step.{Step}
-use Rattle.vd_noninter_difference.specs.Difference.{view_difference}
+use Rattle.vd_equivocation_walk.specs.declared.equivocation_laws.step.Step.{Step}
+use Rattle.vd_noninter_protocols.specs.Difference.{view_difference}
 use Rattle.vd_base.specs.Words.{InputsAreWords}
-use Rattle.vd_views_programs.specs.Explained.{IsOfTwo, plan_of, AgreeFor}
-use Rattle.vd_views_deals.specs.Files.{IsExcuse}
-use Rattle.vd_equivocation_deals.specs.Short.{short_kind}
-use Rattle.vd_equivocation_steps.specs.Claims.{LeadTo}
-use Rattle.vd_equivocation_deals.specs.Excuses.{excuse_files}
+use Rattle.vd_views.specs.Explained.{IsOfTwo, plan_of, AgreeFor}
+use Rattle.vd_views.specs.Files.{IsExcuse}
+use Rattle.vd_equivocation.specs.Short.{short_kind}
+use Rattle.vd_equivocation.specs.Claims.{LeadTo}
+use Rattle.vd_equivocation.specs.Excuses.{excuse_files}
 use Rattle.vd_equivocation_walk.specs.declared.explaining.Walked.{Walked}
 use Rattle.vd_equivocation_walk.specs.Claims.{EndsWithin, HaveSameShape, end_of}
 use Rattle.vd_equivocation_walk.specs.Files.{file_tape, first_short}

@@ -2,9 +2,9 @@
 
 ghost use Rattle.std.specs.Prelude.{◌≡◌, ◌<◌, IfOk};
 ghost use Rattle.vd_constraints.specs.declared.labels.Labels.{Labels};
-ghost use Rattle.vd_noninter_difference.specs.Difference.{view_difference as difference};
+ghost use Rattle.vd_noninter_protocols.specs.Difference.{view_difference as difference};
 ghost use Rattle.vd_projection.specs.Programs.{CanRunAt};
-ghost use Rattle.vd_views_programs.specs.Explained.{IsOfTwo, plan_of};
+ghost use Rattle.vd_views.specs.Explained.{IsOfTwo, plan_of};
 ghost use Rattle.vd_equivocation.specs.Excuse.{AreAsked, Excuses, HasWalked, Refuses};
 
 use crate::fault::ViewFault;
@@ -12,9 +12,9 @@ use crate::lines::steps_at;
 use std::alloc::{AllocError, Global};
 use vd_base::{HostId, Inputs, Proto};
 use vd_core::Program;
-use vd_deal_items::Deals;
 use vd_equivocation_walk::{Walked, walk};
-use vd_noninter_difference::{Listener, view_difference};
+use vd_noninter_protocols::{Listener, view_difference};
+use vd_tape::Deals;
 
 /// Deals that explain other inputs to a host: they are consistent, as long as the deals of the first inputs, and the host's own is the
 /// same; and by them it sees of the second inputs what it sees of the first. The protocols are a valid assignment, none of them a

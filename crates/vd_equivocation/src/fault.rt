@@ -5,7 +5,7 @@ ghost use Rattle.vd_equivocation.specs.declared.fault.ViewFault.TheVariants.{Mem
 
 use std::alloc::AllocError;
 use thiserror::Error;
-use vd_deal_items::DealKind;
+use vd_tape::DealKind;
 
 /// Why other inputs are not explained to a host.
 #[derive(Clone, Copy, PartialEq, Eq, Debug, Error)]

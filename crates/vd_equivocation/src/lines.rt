@@ -3,17 +3,16 @@
 ghost use Rattle.std.specs.Prelude.{IfOk};
 ghost use Rattle.vd_constraints.specs.declared.labels.Labels.{Labels};
 ghost use Rattle.vd_projection.specs.Programs.{CanRunAt};
-ghost use Rattle.vd_views_programs.specs.Explained.{IsOfTwo, plan_of};
-ghost use Rattle.vd_equivocation_steps.specs.Claims.{LeadTo};
+ghost use Rattle.vd_views.specs.Explained.{IsOfTwo, plan_of};
+ghost use Rattle.vd_equivocation.specs.Claims.{LeadTo};
 
+use crate::equivocation_steps::steps_of;
 use std::alloc::{AllocError, Global};
-use vd_base::Proto;
-use vd_base_lists::Items;
+use vd_base::{Items, Proto};
 use vd_core::Program;
-use vd_equivocation_laws::Step;
-use vd_equivocation_pairs::pairs_are_read_off;
-use vd_equivocation_steps::steps_of;
+use vd_equivocation_walk::Step;
 use vd_projection::joint_lines;
+use vd_views::pairs_are_read_off;
 
 /// The steps of all hosts of a program at a valid assignment of protocols to its slots.
 pub(crate) fn steps_at(

@@ -2,8 +2,8 @@
 use Rattle.std.specs.Prelude.{ℕ, zero, suc, ◌+◌, nat_lt, if◌then◌else◌, List, [], ◌∷◌, slice_index, slice_set}
 use Rattle.vd_base.specs.declared.operations.Op.TheVariants as op
 use Rattle.vd_base.specs.Operations.{operation}
-use Rattle.vd_deal_items.specs.declared.items.Triple.{Triple}
-use Rattle.vd_deal_items.specs.declared.items.PairItem.{PairItem}
+use Rattle.vd_tape.specs.declared.deal_items.items.Triple.{Triple}
+use Rattle.vd_tape.specs.declared.deal_items.items.PairItem.{PairItem}
 use Rattle.vd_execution.specs.declared.instructions.Reg.{Reg}
 use Rattle.vd_execution.specs.declared.instructions.Action.{Action}
 use Rattle.vd_execution.specs.declared.instructions.Action.TheVariants as action

@@ -1,10 +1,10 @@
 -- A host in one run: what it takes items from, how many it took, and what an action makes of it.
 use Rattle.std.specs.Prelude.{ℕ, ◌+◌, nat_eq, nat_le, if◌then◌else◌, List, [], ◌∷◌, map, length, slice_index, slice_index_or, slice_set}
 use Rattle.vd_base.specs.declared.ids.HostId.{HostId}
-use Rattle.vd_deal_items.specs.declared.deal.Deal.{Deal}
-use Rattle.vd_deal_items.specs.declared.items.Triple.{Triple}
-use Rattle.vd_deal_items.specs.declared.items.PairItem.{PairItem}
-use Rattle.vd_deal_items.specs.Identities.{triple_at, pair_at, zero_triple, zero_pair}
+use Rattle.vd_tape.specs.declared.deal_items.deal.Deal.{Deal}
+use Rattle.vd_tape.specs.declared.deal_items.items.Triple.{Triple}
+use Rattle.vd_tape.specs.declared.deal_items.items.PairItem.{PairItem}
+use Rattle.vd_tape.specs.Identities.{triple_at, pair_at, zero_triple, zero_pair}
 use Rattle.vd_execution.specs.declared.instructions.Reg.{Reg}
 use Rattle.vd_execution.specs.declared.instructions.Action.{Action}
 use Rattle.vd_execution.specs.declared.instructions.Action.TheVariants as action

@@ -8,10 +8,9 @@ ghost use Rattle.vd_equivocation_runs.specs.declared.side.Side.{Side as HostSide
 use crate::side::{Side, Taken};
 use std::alloc::{AllocError, Global};
 use std::marker::Model;
-use vd_base::{HostId, Words};
-use vd_base_lists::Items;
-use vd_deal_items::{PairItem, Triple};
+use vd_base::{HostId, Items, Words};
 use vd_execution::{Act, Action, Reg};
+use vd_tape::{PairItem, Triple};
 
 /// All hosts in one run, by their numbers. One that did not act yet has no registers and no lists.
 #[derive(Drop)]

@@ -1,7 +1,7 @@
 //! One host in a run, and what it does by itself.
 
 ghost use Rattle.std.specs.Prelude.{◌≡◌, ◌<◌, ◌+◌, ◌^◌, [], IfOk, OnOk, slice_index, slice_index_or, length};
-ghost use Rattle.vd_deal_items.specs.Identities.{triple_at, pair_at};
+ghost use Rattle.vd_tape.specs.Identities.{triple_at, pair_at};
 ghost use Rattle.vd_execution.specs.Registers.{applied};
 ghost use Rattle.vd_semantics.specs.Stores.{put};
 ghost use Rattle.vd_equivocation_runs.specs.Registers.{put_in_cell, put_three, put_two};
@@ -10,10 +10,9 @@ ghost use Rattle.vd_equivocation_runs.specs.Sides.{bits_taken, counted, dealt_si
 use crate::digest::digest;
 use crate::registers::{cell, clear, read, write, write_each, write_from};
 use std::alloc::{AllocError, Global};
-use vd_base::{HostId, Op, Words, combine};
-use vd_base_lists::Items;
-use vd_deal_items::{Deal, PairItem, Triple};
+use vd_base::{HostId, Items, Op, Words, combine};
 use vd_execution::{Action, Binary, Reg};
+use vd_tape::{Deal, PairItem, Triple};
 
 /// How many items a host took of each list; who took one past the end of a list stays one past it.
 #[derive(Clone, Copy, PartialEq, Eq)]

@@ -9,20 +9,20 @@ use Rattle.vd_execution.specs.Joint.{Part as HostPart, Hosts, is_other as other,
 use Rattle.vd_execution.specs.Acts.{run_act}
 use Rattle.vd_views.specs.Excused.{if_both}
 use Rattle.vd_views.proofs.Front.{acts_grow, begun_cursors}
-use Rattle.vd_equivocation_laws.specs.declared.step.Operands.{Operands}
-use Rattle.vd_equivocation_laws.specs.declared.step.Part.{Part}
-use Rattle.vd_equivocation_laws.specs.declared.step.Hidden.{Hidden}
-use Rattle.vd_equivocation_laws.specs.declared.step.Hidden.TheVariants.{Product, Bits, Word}
-use Rattle.vd_equivocation_laws.specs.declared.step.Step.{Step, roll-Step, map-Step, ind-Step}
-use Rattle.vd_equivocation_laws.specs.declared.step.Step.TheOpen.{Step-F}
-use Rattle.vd_equivocation_laws.specs.declared.step.Step.TheFolds.{fold-roll-Step}
-use Rattle.vd_equivocation_laws.specs.Walks.{Both, other_side, masked_again, paired_again, hidden_again, Walk, run_steps, both_steps, both_begun, step_walk, walk, walks}
+use Rattle.vd_equivocation_walk.specs.declared.equivocation_laws.step.Operands.{Operands}
+use Rattle.vd_equivocation_walk.specs.declared.equivocation_laws.step.Part.{Part}
+use Rattle.vd_equivocation_walk.specs.declared.equivocation_laws.step.Hidden.{Hidden}
+use Rattle.vd_equivocation_walk.specs.declared.equivocation_laws.step.Hidden.TheVariants.{Product, Bits, Word}
+use Rattle.vd_equivocation_walk.specs.declared.equivocation_laws.step.Step.{Step, roll-Step, map-Step, ind-Step}
+use Rattle.vd_equivocation_walk.specs.declared.equivocation_laws.step.Step.TheOpen.{Step-F}
+use Rattle.vd_equivocation_walk.specs.declared.equivocation_laws.step.Step.TheFolds.{fold-roll-Step}
+use Rattle.vd_equivocation_walk.specs.Walks.{Both, other_side, masked_again, paired_again, hidden_again, Walk, run_steps, both_steps, both_begun, step_walk, walk, walks}
 use Rattle.vd_equivocation_runs.specs.declared.side.Side.{Side}
 use Rattle.vd_equivocation_runs.specs.Sides.{next_triple, next_bits, shared_triple, shared_bits, shared_pair, triple_words, pair_words, with_triple, with_bits, with_pair}
 use Rattle.vd_equivocation_runs.specs.Runs.{side_at, put_side, acted, is_other, begun}
 use Rattle.vd_equivocation_walk.specs.declared.walker.Walker.{Walker}
-use Rattle.vd_deal_items.specs.declared.items.Triple.{Triple}
-use Rattle.vd_deal_items.specs.declared.items.PairItem.{PairItem}
+use Rattle.vd_tape.specs.declared.deal_items.items.Triple.{Triple}
+use Rattle.vd_tape.specs.declared.deal_items.items.PairItem.{PairItem}
 use Rattle.vd_views.specs.Items.{raised, sum_item, xor_item, pair_item}
 use Rattle.vd_equivocation_walk.specs.Items.{triple_of, pair_of}
 use Rattle.vd_equivocation_walk.specs.Data as plain

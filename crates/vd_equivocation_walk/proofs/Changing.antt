@@ -5,9 +5,9 @@ use Rattle.std.proofs.lemmas.List.{length-set}
 use Rattle.std.proofs.lemmas.Bool.{ne_eqb}
 use Rattle.std.proofs.lemmas.Bool.Decides.{eqb_tells}
 use Rattle.vd_base.specs.declared.ids.HostId.{HostId}
-use Rattle.vd_deal_items.specs.declared.items.Triple.{Triple}
-use Rattle.vd_deal_items.specs.declared.items.PairItem.{PairItem}
-use Rattle.vd_deal_items.specs.Identities.{zero_triple, zero_pair}
+use Rattle.vd_tape.specs.declared.deal_items.items.Triple.{Triple}
+use Rattle.vd_tape.specs.declared.deal_items.items.PairItem.{PairItem}
+use Rattle.vd_tape.specs.Identities.{zero_triple, zero_pair}
 use Rattle.vd_execution.specs.Step.{Source, Inputs, OwnWords, Triples, BitTriples, Pairs, same_source}
 use Rattle.vd_execution.specs.World.{Tape}
 use Rattle.vd_execution.specs.Joint.{Hosts}
@@ -15,9 +15,9 @@ use Rattle.vd_execution.specs.Registers.{nth}
 use Rattle.vd_views.specs.Excused.{with_item}
 use Rattle.vd_views.specs.Items.{sum_item, xor_item, pair_item, raised}
 use Rattle.vd_views.proofs.Front.{changed_at, changed_source, changed_place}
-use Rattle.vd_equivocation_laws.specs.declared.step.Operands.{Operands}
-use Rattle.vd_equivocation_laws.specs.declared.step.Part.{Part}
-use Rattle.vd_equivocation_laws.specs.Walks.{Both, word_of as word_made, dealt_word as word_dealt}
+use Rattle.vd_equivocation_walk.specs.declared.equivocation_laws.step.Operands.{Operands}
+use Rattle.vd_equivocation_walk.specs.declared.equivocation_laws.step.Part.{Part}
+use Rattle.vd_equivocation_walk.specs.Walks.{Both, word_of as word_made, dealt_word as word_dealt}
 use Rattle.vd_equivocation_runs.specs.declared.side.Side.{Side}
 use Rattle.vd_equivocation_runs.specs.Sides.{next_triple, next_bits, next_pair, shared_triple, shared_bits, shared_pair, triple_words, pair_words, with_triple, with_bits, with_pair}
 use Rattle.vd_equivocation_runs.specs.Runs.{side_at}

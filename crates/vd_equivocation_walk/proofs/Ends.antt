@@ -6,15 +6,15 @@ use Rattle.std.proofs.lemmas.Bool.{eq-eqb}
 use Rattle.std.proofs.lemmas.Bool.Decides.{leb_tells, nat_tests}
 use mathlib.Core.Path.{fun_ext}
 use Rattle.vd_base.specs.declared.ids.HostId.{HostId}
-use Rattle.vd_deal_items.specs.declared.deal.Deal.{Deal}
-use Rattle.vd_deal_items.specs.declared.items.Triple.{Triple}
-use Rattle.vd_deal_items.specs.declared.items.PairItem.{PairItem}
-use Rattle.vd_deal_items.specs.Identities.{zero_triple, zero_pair}
+use Rattle.vd_tape.specs.declared.deal_items.deal.Deal.{Deal}
+use Rattle.vd_tape.specs.declared.deal_items.items.Triple.{Triple}
+use Rattle.vd_tape.specs.declared.deal_items.items.PairItem.{PairItem}
+use Rattle.vd_tape.specs.Identities.{zero_triple, zero_pair}
 use Rattle.vd_execution.specs.Step.{Source, Inputs, OwnWords, Triples, BitTriples, Pairs}
 use Rattle.vd_execution.specs.World.{zeros_of}
 use Rattle.vd_execution.specs.Joint.{fresh}
-use Rattle.vd_equivocation_laws.specs.declared.step.Step.{Step}
-use Rattle.vd_equivocation_laws.specs.Walks.{Both}
+use Rattle.vd_equivocation_walk.specs.declared.equivocation_laws.step.Step.{Step}
+use Rattle.vd_equivocation_walk.specs.Walks.{Both}
 use Rattle.vd_equivocation_runs.specs.Sides.{dealt_side, empty_side, triple_words, pair_words}
 use Rattle.vd_equivocation_runs.specs.Runs.{side_at}
 use Rattle.vd_equivocation_walk.specs.declared.walker.Walker.{Walker}
@@ -23,8 +23,8 @@ use Rattle.vd_equivocation_walk.specs.Supplies.{Lists, lists_of, supplies, dealt
 use Rattle.vd_equivocation_walk.specs.Following.{placed, IsIn, Stands, Known, Follows, WalksAreFollowed}
 use Rattle.vd_machine.specs.Dealt.{counts_of}
 use Rattle.vd_equivocation_walk.specs.Files.{AreOfTwo, file_tape, dealt_sides, takes_more, is_short, first_of, first_short}
-use Rattle.vd_deal_items.specs.declared.deal.DealKind.{DealKind}
-use Rattle.vd_deal_items.specs.declared.deal.DealKind.TheVariants.{Own, Mul, And, Pair}
+use Rattle.vd_tape.specs.declared.deal_items.deal.DealKind.{DealKind}
+use Rattle.vd_tape.specs.declared.deal_items.deal.DealKind.TheVariants.{Own, Mul, And, Pair}
 use Rattle.vd_equivocation_walk.proofs.Along.{first_lists}
 use Rattle.vd_equivocation_walk.specs.Claims.{side_takes_more, either_takes_more, first_taken, at_start, end_of, EndsWithin, HasSameShape, HaveSameShape, stored_deal, stored_deals, walker_of}
 use Rattle.vd_equivocation_walk.proofs.Stands.{word_or_zero}

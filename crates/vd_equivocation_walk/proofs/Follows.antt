@@ -8,7 +8,7 @@ use Rattle.vd_execution.specs.Joint.{Hosts}
 use Rattle.vd_views.specs.Excused.{with_item}
 use Rattle.vd_views.proofs.Front.{changed_host}
 use Rattle.std.proofs.lemmas.Bool.Decides.{eqb_tells}
-use Rattle.vd_equivocation_laws.specs.Walks.{Both}
+use Rattle.vd_equivocation_walk.specs.Walks.{Both}
 use Rattle.vd_equivocation_runs.specs.declared.side.Side.{Side}
 use Rattle.vd_equivocation_runs.specs.Runs.{side_at, put_side}
 use Rattle.vd_equivocation_walk.specs.declared.walker.Walker.{Walker}

@@ -4,11 +4,11 @@ use Rattle.std.specs.Prelude.{slice_get, slice_index, slice_index_or, unwrap_or}
 use Rattle.std.proofs.lemmas.Bool.{ne_eqb}
 use Rattle.std.proofs.lemmas.Option.{slice_get_past}
 use Rattle.vd_base.specs.declared.ids.HostId.{HostId}
-use Rattle.vd_deal_items.specs.declared.deal.Deal.{Deal}
-use Rattle.vd_deal_items.specs.declared.items.Triple.{Triple}
-use Rattle.vd_deal_items.specs.declared.items.PairItem.{PairItem}
-use Rattle.vd_deal_items.specs.Identities.{triple_at, pair_at, zero_triple, zero_pair}
-use Rattle.vd_deal_items.specs.Validity.{peer_place}
+use Rattle.vd_tape.specs.declared.deal_items.deal.Deal.{Deal}
+use Rattle.vd_tape.specs.declared.deal_items.items.Triple.{Triple}
+use Rattle.vd_tape.specs.declared.deal_items.items.PairItem.{PairItem}
+use Rattle.vd_tape.specs.Identities.{triple_at, pair_at, zero_triple, zero_pair}
+use Rattle.vd_tape.specs.Validity.{peer_place}
 use Rattle.vd_execution.specs.Step.{Source, Inputs, OwnWords, Triples, BitTriples, Pairs}
 use Rattle.vd_execution.specs.World.{or_zeros, zeros_of}
 use Rattle.vd_machine.specs.Machines.{item_or_none, word_item, list_of}

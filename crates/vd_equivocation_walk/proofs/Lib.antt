@@ -9,3 +9,4 @@ mod Changing
 mod Along
 mod Hosts
 mod Ends
+mod WalkedActs

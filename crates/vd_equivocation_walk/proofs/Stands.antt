@@ -4,7 +4,7 @@ use Rattle.std.specs.Prelude.{Option, slice_get, slice_index, unwrap_or}
 use Rattle.std.proofs.lemmas.Bool.{eq-eqb, ne_eqb}
 use Rattle.std.proofs.lemmas.Bool.Decides.{eqb_tells, leb_tells, nat_tests}
 use Rattle.std.proofs.lemmas.Option.{slice_get_past}
-use Rattle.vd_deal_items.specs.Identities.{zero_triple, zero_pair}
+use Rattle.vd_tape.specs.Identities.{zero_triple, zero_pair}
 use Rattle.vd_execution.specs.declared.instructions.Action.{Action}
 use Rattle.vd_execution.specs.declared.instructions.Action.TheVariants as action
 use Rattle.vd_execution.specs.Registers as registers

@@ -2,9 +2,9 @@
 use Rattle.std.proofs.Common.{◌≡◌, ℕ, zero, suc, ◌+◌, add-one, Bool, true, false, if◌then◌else◌, List, sym, ap, ◌∙◌, arith, rules}
 use Rattle.std.specs.Prelude.{Result, OnOk, Ok, Err, ⊤}
 use Rattle.vd_execution.specs.Joint.{Part, turns}
-use Rattle.vd_equivocation_laws.specs.declared.step.Step.{Step, Branch as BranchStep}
-use Rattle.vd_equivocation_laws.specs.declared.step.Step.TheOpen.{Step-F}
-use Rattle.vd_equivocation_laws.specs.declared.step.Step.TheFolds.{the_lemmas}
+use Rattle.vd_equivocation_walk.specs.declared.equivocation_laws.step.Step.{Step, Branch as BranchStep}
+use Rattle.vd_equivocation_walk.specs.declared.equivocation_laws.step.Step.TheOpen.{Step-F}
+use Rattle.vd_equivocation_walk.specs.declared.equivocation_laws.step.Step.TheFolds.{the_lemmas}
 use Rattle.vd_equivocation_runs.specs.declared.side.Side.{Side}
 use Rattle.vd_equivocation_runs.specs.Runs.{is_other}
 use Rattle.vd_equivocation_walk.specs.declared.walker.Choice.TheVariants as choice

@@ -2,7 +2,7 @@
 use Rattle.std.proofs.Common.{◌≡◌, ℕ, ◌+◌, ◌-◌, ◌*◌, ◌%◌, ◌^◌, ap, ap₂, ◌∙◌}
 use Rattle.std.proofs.lemmas.Nat.{mul-mod_first, mul-mod_second}
 use Rattle.std.proofs.Math.Nat.{mod-add-mod}
-use Rattle.vd_deal_items.specs.declared.items.Triple.{Triple}
+use Rattle.vd_tape.specs.declared.deal_items.items.Triple.{Triple}
 
 product : (a b d m : ℕ) → ((a % m) * (b % m) % m + d) % m ≡ (a * b + d) % m
 product a b d m = ap (λ z. (z + d) % m) (mul-mod_first a (b % m) m ∙ mul-mod_second a b m) ∙ mod-add-mod (a * b) m d

@@ -1,15 +1,15 @@
 -- What is computed along both runs: the deal at the end.
 use Rattle.std.specs.Prelude.{◌≡◌, ◌≢◌, ℕ, ◌+◌, ◌≤◌, List, [], ◌∷◌, Some, length, map, slice_get, slice_index, slice_index_or, nat_lt, ◌||◌, Bool, Option}
 use Rattle.vd_base.specs.declared.ids.HostId.{HostId}
-use Rattle.vd_deal_items.specs.declared.deal.Deal.{Deal}
-use Rattle.vd_deal_items.specs.declared.deal.DealKind.{DealKind}
-use Rattle.vd_deal_items.specs.declared.deal.DealKind.TheVariants.{Own, Mul, And, Pair}
+use Rattle.vd_tape.specs.declared.deal_items.deal.Deal.{Deal}
+use Rattle.vd_tape.specs.declared.deal_items.deal.DealKind.{DealKind}
+use Rattle.vd_tape.specs.declared.deal_items.deal.DealKind.TheVariants.{Own, Mul, And, Pair}
 use Rattle.vd_execution.specs.Step.{Source, Inputs}
 use Rattle.vd_execution.specs.World.{zeros_of}
 use Rattle.vd_execution.specs.Joint.{fresh}
 use Rattle.vd_views.specs.Contract.{with_inputs}
-use Rattle.vd_equivocation_laws.specs.declared.step.Step.{Step}
-use Rattle.vd_equivocation_laws.specs.Walks.{Both, both_steps, walks}
+use Rattle.vd_equivocation_walk.specs.declared.equivocation_laws.step.Step.{Step}
+use Rattle.vd_equivocation_walk.specs.Walks.{Both, both_steps, walks}
 use Rattle.vd_equivocation_runs.specs.declared.side.Side.{Side}
 use Rattle.vd_equivocation_runs.specs.Runs.{side_at}
 use Rattle.vd_equivocation_walk.specs.declared.walker.Walker.{Walker}

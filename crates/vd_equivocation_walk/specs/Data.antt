@@ -1,19 +1,19 @@
 -- Two runs along the same steps, as lists: what `Walks` of vd_equivocation_laws says of tapes and of all hosts.
 use Rattle.std.specs.Prelude.{ℕ, if◌then◌else◌, Bool, true, false, List, [], ◌∷◌, map, bit_xor, slice_index}
 use Rattle.vd_base.specs.declared.ids.HostId.{HostId}
-use Rattle.vd_deal_items.specs.declared.items.Triple.{Triple}
+use Rattle.vd_tape.specs.declared.deal_items.items.Triple.{Triple}
 use Rattle.vd_execution.specs.declared.instructions.Reg.{Reg}
 use Rattle.vd_execution.specs.Joint.{Part as HostPart, turns}
 use Rattle.vd_views.specs.Items.{raised, sum_item, xor_item, pair_item}
 use Rattle.vd_views.specs.Excused.{if_both}
-use Rattle.vd_equivocation_laws.specs.Walks.{other_side}
-use Rattle.vd_equivocation_laws.specs.declared.step.Operands.{Operands}
-use Rattle.vd_equivocation_laws.specs.declared.step.Part.{Part}
-use Rattle.vd_equivocation_laws.specs.declared.step.Hidden.{Hidden}
-use Rattle.vd_equivocation_laws.specs.declared.step.Hidden.TheVariants.{Product, Bits, Word}
-use Rattle.vd_equivocation_laws.specs.declared.step.Step.{Step}
-use Rattle.vd_equivocation_laws.specs.declared.step.Step.TheOpen.{Step-F}
-use Rattle.vd_equivocation_laws.specs.declared.step.Step.TheFolds.{fold-Step}
+use Rattle.vd_equivocation_walk.specs.Walks.{other_side}
+use Rattle.vd_equivocation_walk.specs.declared.equivocation_laws.step.Operands.{Operands}
+use Rattle.vd_equivocation_walk.specs.declared.equivocation_laws.step.Part.{Part}
+use Rattle.vd_equivocation_walk.specs.declared.equivocation_laws.step.Hidden.{Hidden}
+use Rattle.vd_equivocation_walk.specs.declared.equivocation_laws.step.Hidden.TheVariants.{Product, Bits, Word}
+use Rattle.vd_equivocation_walk.specs.declared.equivocation_laws.step.Step.{Step}
+use Rattle.vd_equivocation_walk.specs.declared.equivocation_laws.step.Step.TheOpen.{Step-F}
+use Rattle.vd_equivocation_walk.specs.declared.equivocation_laws.step.Step.TheFolds.{fold-Step}
 use Rattle.vd_equivocation_runs.specs.declared.side.Side.{Side}
 use Rattle.vd_equivocation_runs.specs.Sides.{next_triple, next_bits, next_pair, shared_triple, shared_bits, shared_pair, triple_words, pair_words, with_triple, with_bits, with_pair}
 use Rattle.vd_equivocation_runs.specs.Runs.{side_at, put_side, acted, is_other, begun}

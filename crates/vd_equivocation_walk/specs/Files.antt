@@ -1,8 +1,8 @@
 -- Deals of two hosts as they stand in files, and how many items a run takes of them.
 use Rattle.std.specs.Prelude.{◌≡◌, ℕ, ◌+◌, List, [], ◌∷◌, Option, Some, None, length, slice_get, slice_index_or, ◌-◌, nat_lt, ◌||◌, if◌then◌else◌, Bool}
-use Rattle.vd_deal_items.specs.declared.deal.Deal.{Deal}
-use Rattle.vd_deal_items.specs.declared.deal.DealKind.{DealKind}
-use Rattle.vd_deal_items.specs.declared.deal.DealKind.TheVariants.{Own, Mul, And, Pair}
+use Rattle.vd_tape.specs.declared.deal_items.deal.Deal.{Deal}
+use Rattle.vd_tape.specs.declared.deal_items.deal.DealKind.{DealKind}
+use Rattle.vd_tape.specs.declared.deal_items.deal.DealKind.TheVariants.{Own, Mul, And, Pair}
 use Rattle.vd_execution.specs.Step.{Source, OwnWords, Triples, BitTriples, Pairs}
 use Rattle.vd_execution.specs.World.{Tape, followed_by_zeros}
 use Rattle.vd_execution.specs.Joint.{Hosts}

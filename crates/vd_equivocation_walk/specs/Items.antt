@@ -1,7 +1,7 @@
 -- Items from their words.
 use Rattle.std.specs.Prelude.{ℕ, List}
-use Rattle.vd_deal_items.specs.declared.items.Triple.{Triple}
-use Rattle.vd_deal_items.specs.declared.items.PairItem.{PairItem}
+use Rattle.vd_tape.specs.declared.deal_items.items.Triple.{Triple}
+use Rattle.vd_tape.specs.declared.deal_items.items.PairItem.{PairItem}
 use Rattle.vd_execution.specs.Registers.{nth}
 
 abbrev pub triple_of : List ℕ → Triple

@@ -4,3 +4,6 @@ pub mod Supplies
 pub mod Following
 pub mod Files
 pub mod Claims
+pub mod Steps
+pub mod Walks
+pub mod EquivocationLawsClaims

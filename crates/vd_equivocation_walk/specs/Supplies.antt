@@ -1,9 +1,9 @@
 -- The lists of a host in one run, followed by zeros.
 use Rattle.std.specs.Prelude.{ℕ, nat_eq, if◌then◌else◌, List, [], ◌∷◌, length, slice_index}
 use Rattle.vd_base.specs.declared.ids.HostId.{HostId}
-use Rattle.vd_deal_items.specs.declared.items.Triple.{Triple}
-use Rattle.vd_deal_items.specs.declared.items.PairItem.{PairItem}
-use Rattle.vd_deal_items.specs.Identities.{triple_at, pair_at, zero_triple, zero_pair}
+use Rattle.vd_tape.specs.declared.deal_items.items.Triple.{Triple}
+use Rattle.vd_tape.specs.declared.deal_items.items.PairItem.{PairItem}
+use Rattle.vd_tape.specs.Identities.{triple_at, pair_at, zero_triple, zero_pair}
 use Rattle.vd_execution.specs.Step.{Source, Inputs, OwnWords, Triples, BitTriples, Pairs}
 use Rattle.vd_equivocation_runs.specs.declared.side.Side.{Side}
 use Rattle.vd_equivocation_runs.specs.Sides.{triple_words, pair_words}

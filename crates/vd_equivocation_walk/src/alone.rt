@@ -3,8 +3,8 @@
 ghost use Rattle.std.specs.Prelude.{◌≡◌, OnOk};
 ghost use Rattle.vd_equivocation_walk.specs.Data.{all_alone, data_walk, data_walks, either_alone};
 
+use crate::equivocation_laws::Step;
 use std::alloc::AllocError;
-use vd_equivocation_laws::Step;
 use vd_equivocation_runs::Run;
 
 /// A run does a step.

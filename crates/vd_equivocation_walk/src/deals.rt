@@ -6,10 +6,9 @@ ghost use Rattle.vd_equivocation_walk.specs.Claims.{stored_deal, stored_deals as
 ghost use Rattle.vd_equivocation_walk.specs.Files.{dealt_sides};
 
 use std::alloc::{AllocError, Global};
-use vd_base::Inputs;
-use vd_base_lists::Items;
-use vd_deal_items::{Deal, Deals, PairItem, Triple};
+use vd_base::{Inputs, Items};
 use vd_equivocation_runs::{Run, Side};
+use vd_tape::{Deal, Deals, PairItem, Triple};
 
 /// The inputs of a host.
 fn inputs_of(inputs: &Inputs, host: usize) -> &[u32]

@@ -7,14 +7,13 @@ ghost use Rattle.vd_equivocation_walk.specs.Data.{all_both, data_walks};
 ghost use Rattle.vd_equivocation_walk.specs.Files.{AreOfTwo, file_tape, first_short};
 
 use crate::deals::{run_of, stored_deals};
+use crate::equivocation_laws::Step;
 use crate::laws::walks_are_followed;
 use crate::walker::Walker;
 use std::alloc::{AllocError, Global};
-use vd_base::{HostId, Inputs};
-use vd_base_lists::Items;
-use vd_deal_items::{DealKind, Deals};
-use vd_equivocation_laws::Step;
+use vd_base::{HostId, Inputs, Items};
 use vd_equivocation_runs::Side;
+use vd_tape::{DealKind, Deals};
 
 /// What going along both runs gives.
 #[derive(Drop)]

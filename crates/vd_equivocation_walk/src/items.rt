@@ -5,7 +5,7 @@ ghost use Rattle.vd_views.specs.Items.{raised, sum_item, turned, xor_item, pair_
 ghost use Rattle.vd_equivocation_runs.specs.Sides.{pair_words, triple_words};
 ghost use Rattle.vd_equivocation_walk.specs.Items.{pair_of, triple_of};
 
-use vd_deal_items::{PairItem, Triple};
+use vd_tape::{PairItem, Triple};
 
 /// The operands of a product, in one run.
 #[derive(Clone, Copy, PartialEq, Eq)]

@@ -3,10 +3,12 @@
 
 mod alone;
 mod deals;
+mod equivocation_laws;
 mod explaining;
 mod items;
 mod laws;
 mod walker;
 
+pub use equivocation_laws::{Hidden, Operands, Part, Step, walks_excuse};
 pub use explaining::{Walked, walk};
 pub use laws::walks_are_followed;

@@ -1,15 +1,15 @@
 //! Both runs at once.
 
 ghost use Rattle.std.specs.Prelude.{◌≡◌, OnOk};
-ghost use Rattle.vd_equivocation_laws.specs.declared.step.Hidden.TheVariants.{Product, Bits, Word};
+ghost use Rattle.vd_equivocation_walk.specs.declared.equivocation_laws.step.Hidden.TheVariants.{Product, Bits, Word};
 ghost use Rattle.vd_equivocation_runs.specs.Runs.{acted, is_other};
 ghost use Rattle.vd_equivocation_walk.specs.Data.{all_both, bits_hidden, both_acted, both_begun, choice_of, data_walk, data_walks, dealt_word as dealt_word_of, either_alone as branch_alone, hidden, product_hidden, word_at, word_hidden, word_of as word_of_parts};
 
 use crate::alone::either_alone;
+use crate::equivocation_laws::{Hidden, Operands, Part, Step};
 use crate::items::{Factors, pair_item, raised, sum_item, xor_item};
 use std::alloc::AllocError;
 use vd_base::HostId;
-use vd_equivocation_laws::{Hidden, Operands, Part, Step};
 use vd_equivocation_runs::Run;
 use vd_execution::{Act, Reg};
 

@@ -11,3 +11,8 @@ pub mod States
 pub mod Gadgets
 pub mod Plans
 pub mod Ranges
+pub mod Claims
+pub mod Queues
+pub mod Example
+pub mod Histories
+pub mod Room

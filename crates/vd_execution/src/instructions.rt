@@ -1,5 +1,4 @@
-use vd_base::HostId;
-use vd_base_lists::Items;
+use vd_base::{HostId, Items};
 
 /// A register of one host. A register that was never written holds 0.
 #[derive(Clone, Copy, PartialEq, Eq, Debug)]
@@ -64,7 +63,7 @@ pub enum Action {
 }
 
 /// An instruction of a host's code, in text order.
-#[derive(Drop)]
+#[derive(Debug, Drop)]
 pub enum Instr {
     /// The host acts by itself.
     Do(Action),
@@ -83,7 +82,7 @@ pub enum Instr {
 }
 
 /// What hosts do together: one acts by itself, or one sends a packet that another then receives.
-#[derive(Drop)]
+#[derive(Debug, Drop)]
 pub enum Act {
     /// A host acts by itself.
     Do(HostId, Action),
@@ -92,7 +91,7 @@ pub enum Act {
 }
 
 /// A line of joint code: an act, or a mark of a block at one host that takes part in it.
-#[derive(Drop)]
+#[derive(Debug, Drop)]
 pub enum Line {
     /// What hosts do.
     Act(Act),

@@ -1,9 +1,9 @@
 -- What stays where a name is made free.
 use Rattle.std.proofs.Common.{arith, rules, ◌≡◌, ◌∙◌, ℕ, Bool, false, List, [], ◌∷◌, ◌++◌, Option, None, Ok, ap, if◌then◌else◌, bytes_eq}
 use Rattle.vd_outside.specs.Files.{Contents, with_content}
-use Rattle.vd_outside_marks.specs.Marks.{Releases}
-use Rattle.vd_outside_marks.specs.Places.{mark_at}
-use Rattle.vd_outside_marks.specs.declared.marks.MarksCall.TheVariants.{Release}
+use Rattle.vd_outside.specs.Marks.{Releases}
+use Rattle.vd_outside.specs.Places.{mark_at}
+use Rattle.vd_outside.specs.declared.outside_marks.marks.MarksCall.TheVariants.{Release}
 use Rattle.vd_fakes.specs.Failing.{with_call}
 use Rattle.vd_fakes.specs.MemMarks.{marks_view, taken_of}
 use Rattle.vd_fakes.specs.declared.failures.Failures.{Failures}

@@ -6,7 +6,7 @@ use Rattle.vd_base.specs.declared.faults.CallFault.TheVariants as call_fault
 use Rattle.vd_outside.specs.Files.{Contents}
 use Rattle.vd_fakes.specs.Failing.{fails_next, with_call, with_fault}
 use Rattle.vd_fakes.specs.declared.failures.Failures.{Failures}
-use Rattle.vd_outside_marks.specs.Marks.{MarksView}
+use Rattle.vd_outside.specs.Marks.{MarksView}
 use Rattle.vd_fakes.specs.declared.mem_marks.Mark.{Mark}
 use Rattle.vd_fakes.specs.declared.mem_marks.MemMarks.{MemMarks}
 

@@ -2,10 +2,10 @@ ghost use Rattle.std.specs.Prelude.{◌≡◌, ◌≤◌, []};
 ghost use Rattle.vd_outside.specs.Causes.{Rose};
 ghost use Rattle.vd_fakes.specs.Failing.{is_listed, one_more};
 
-use vd_base_lists::Items;
+use vd_base::Items;
 
 /// Which calls of an object in memory fail, by their numbers from 0; how many were made, and how many failed.
-#[derive(Debug, Drop)]
+#[derive(Drop)]
 pub struct Failures {
     pub failing: Items<u64>,
     pub calls: u64,

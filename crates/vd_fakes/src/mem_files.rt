@@ -7,12 +7,11 @@ ghost use Rattle.vd_fakes.specs.Found.{found};
 use crate::Failures;
 use crate::finding::{find, limited};
 use std::alloc::Global;
-use vd_base::{Bytes, CallFault, Text};
-use vd_base_lists::Items;
+use vd_base::{Bytes, CallFault, Items, Text};
 use vd_outside::{FetchFault, Files, FilesCall, Stored};
 
 /// Files in memory, which fail at the calls whose numbers they are given. Of files with one name the first counts.
-#[derive(Debug, Drop)]
+#[derive(Drop)]
 pub struct MemFiles {
     pub alloc: Global,
     pub files: Items<Stored>,

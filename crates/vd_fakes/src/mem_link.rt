@@ -6,13 +6,12 @@ ghost use Rattle.vd_fakes.specs.Failing.{fails_next};
 use crate::{Failures, SureLink};
 use std::alloc::{AllocError, Global};
 use std::marker::Model;
-use vd_base::{Bytes, Failed};
-use vd_base_lists::Items;
+use vd_base::{Bytes, Failed, Items};
 use vd_outside::Link;
 
 /// A link in memory that takes and gives so many bytes a call at most, though always one, and fails at the calls whose
 /// numbers it is given. It tells its bytes while those that were sent fit its room.
-#[derive(Debug, Drop)]
+#[derive(Drop)]
 pub struct MemLink {
     link: SureLink,
     most: u32,

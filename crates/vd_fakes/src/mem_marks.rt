@@ -4,19 +4,18 @@ ghost use Rattle.std.specs.Prelude.{◌≡◌, [], Some, None, IfOk, OnOk, OnErr
 ghost use Rattle.vd_outside.specs.Causes.{asked_after};
 ghost use Rattle.vd_outside.specs.Files.{with_content};
 ghost use Rattle.vd_fakes.specs.Failing.{FailsAsTold, ReleaseFailsAsListed, StoreFailsAsListed, failures_at};
-ghost use Rattle.vd_outside_marks.specs.Marks.{Claims, Draws, Releases};
+ghost use Rattle.vd_outside.specs.Marks.{Claims, Draws, Releases};
 ghost use Rattle.vd_fakes.specs.MemMarks.{DrawFailsAsListed, marks_view, taken_of};
-ghost use Rattle.vd_outside_marks.specs.Places.{mark_at};
-ghost use Rattle.vd_outside_marks.specs.declared.marks.MarksCall.TheVariants.{Release};
+ghost use Rattle.vd_outside.specs.Places.{mark_at};
+ghost use Rattle.vd_outside.specs.declared.outside_marks.marks.MarksCall.TheVariants.{Release};
 
 use crate::Failures;
 use std::alloc::{AllocError, Global};
-use vd_base::{Bytes, CallFault};
-use vd_base_lists::Items;
-use vd_outside_marks::{Marks, MarksCall, mark_at};
+use vd_base::{Bytes, CallFault, Items};
+use vd_outside::{Marks, MarksCall, mark_at};
 
 /// A place that was taken, with the bytes that stand there, or that was made free again.
-#[derive(Debug, Drop)]
+#[derive(Drop)]
 pub struct Mark {
     pub place: Bytes,
     pub bytes: Option<Bytes>,
@@ -46,7 +45,7 @@ impl Mark {
 
 /// Marks in memory, which fail at the calls whose numbers they are given, and give the draws that they hold in their order. Of marks
 /// with one name the first counts.
-#[derive(Debug, Drop)]
+#[derive(Drop)]
 pub struct MemMarks {
     pub alloc: Global,
     pub marks: Items<Mark>,

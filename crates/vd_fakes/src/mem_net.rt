@@ -8,13 +8,12 @@ use crate::waiting::take_link;
 use crate::{Failures, MemLink};
 use std::alloc::{AllocError, Global};
 use std::marker::Model;
-use vd_base::{CallFault, Text};
-use vd_base_lists::Items;
+use vd_base::{CallFault, Items, Text};
 use vd_outside::{Link, Net, NetCall};
 
 /// A net in memory that gives the links that it holds, each at its address in their order. It fails where none is left
 /// there, and at the calls whose numbers it is given; links that come back have no number.
-#[derive(Debug, Drop)]
+#[derive(Drop)]
 pub struct MemNet {
     alloc: Global,
     limit: Option<u32>,

@@ -6,13 +6,12 @@ ghost use Rattle.vd_outside.specs.Sink.{Writes};
 use crate::Failures;
 use std::alloc::{AllocError, Global};
 use std::marker::Model;
-use vd_base::Failed;
-use vd_base_lists::Items;
+use vd_base::{Failed, Items};
 use vd_outside::{Recorder, Sink};
 
 /// A sink in memory that takes so many bytes a call at most, though always one, and fails at the calls whose numbers
 /// it is given. It tells its bytes while they fit its room.
-#[derive(Debug, Drop)]
+#[derive(Drop)]
 pub struct MemSink {
     recorder: Recorder,
     most: u32,

@@ -6,13 +6,12 @@ use crate::Failures;
 use crate::starting::start_call;
 use std::alloc::Global;
 use std::marker::Model;
-use vd_base::{CallFault, Texts};
-use vd_base_lists::Items;
+use vd_base::{CallFault, Items, Texts};
 use vd_outside::{Child, Line, Spawner, SpawnerCall};
 
 /// A spawner in memory that starts the children that it holds in their order. It fails at a start where none is left, and
 /// at the calls whose numbers it is given.
-#[derive(Debug, Drop)]
+#[derive(Drop)]
 pub struct MemSpawner {
     alloc: Global,
     children: Vec<Child>,

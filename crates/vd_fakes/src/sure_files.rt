@@ -2,12 +2,11 @@ ghost use Rattle.std.specs.Prelude.{◌≡◌, true, []};
 
 use crate::finding::{find_or_empty, limited};
 use std::alloc::Global;
-use vd_base::{Bytes, CallFault, Text};
-use vd_base_lists::Items;
+use vd_base::{Bytes, CallFault, Items, Text};
 use vd_outside::{FetchFault, Files, FilesCall, Stored};
 
 /// Files in memory that never fail: a name with no file is an empty file. Of files with one name the first counts.
-#[derive(Debug, Drop)]
+#[derive(Drop)]
 pub struct SureFiles {
     pub alloc: Global,
     pub files: Items<Stored>,

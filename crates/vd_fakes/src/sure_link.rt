@@ -9,7 +9,7 @@ use vd_base::{Bytes, Failed};
 use vd_outside::{Link, Recorder};
 
 /// A link in memory that takes and gives all and never fails. It tells its bytes while those that were sent fit its room.
-#[derive(Debug, Drop)]
+#[derive(Drop)]
 pub struct SureLink {
     incoming: Bytes,
     cursor: usize,

@@ -6,13 +6,12 @@ use crate::SureLink;
 use crate::waiting::take_link;
 use std::alloc::{AllocError, Global};
 use std::marker::Model;
-use vd_base::{Bytes, CallFault, Text};
-use vd_base_lists::Items;
+use vd_base::{Bytes, CallFault, Items, Text};
 use vd_outside::{Net, NetCall};
 
 /// A net in memory that never fails: at each address it gives the links that it holds for it in their order, and where
 /// none is left links without bytes.
-#[derive(Debug, Drop)]
+#[derive(Drop)]
 pub struct SureNet {
     alloc: Global,
     room: usize,

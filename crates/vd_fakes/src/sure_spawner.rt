@@ -5,13 +5,12 @@ ghost use Rattle.vd_fakes.specs.SureSpawner.{quiet_child};
 use crate::starting::start_call;
 use std::alloc::Global;
 use std::marker::Model;
-use vd_base::{CallFault, Texts};
-use vd_base_lists::Items;
+use vd_base::{CallFault, Items, Texts};
 use vd_outside::{Child, Line, Spawner, SpawnerCall};
 
 /// A spawner in memory that never fails: it starts the children that it holds in their order, and where none is left
 /// children that write nothing and end with status 0.
-#[derive(Debug, Drop)]
+#[derive(Drop)]
 pub struct SureSpawner {
     alloc: Global,
     children: Vec<Child>,

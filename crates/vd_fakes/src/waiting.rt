@@ -2,8 +2,7 @@ ghost use Rattle.std.specs.Prelude.{◌≡◌, None, MatchOption};
 ghost use Rattle.vd_outside.specs.Net.{link_at, without_link_at};
 ghost use Rattle.vd_fakes.specs.SureNet.{FirstWaits, IsTakenOut, NoneWaits};
 
-use vd_base::Text;
-use vd_base_lists::Items;
+use vd_base::{Items, Text};
 
 /// Takes the first link that waits at an address.
 pub(crate) fn take_link<L: Drop>(waiting: &mut Items<(Text, L)>, address: &str) -> Option<L>

@@ -12,8 +12,7 @@ use crate::Formula;
 use std::alloc::{AllocError, Global};
 use std::error::Error;
 use std::fmt;
-use vd_base::{Form, Name, Names};
-use vd_base_lists::Items;
+use vd_base::{Form, Items, Name, Names};
 
 /// Why a written form has no formula.
 #[derive(PartialEq, Eq, Debug, Drop)]

@@ -3,7 +3,7 @@ ghost use Rattle.vd_formula.specs.MinimalSets.{AreMinimalSets, is_minimal, minim
 
 use crate::Formula;
 use std::alloc::{AllocError, Global};
-use vd_base_lists::Items;
+use vd_base::Items;
 
 impl Formula {
     /// The numbers of the minimal sets at which the formula is true, in order.

@@ -9,8 +9,7 @@ use crate::ChildrenFault;
 use crate::reading::read;
 use crate::starting::start;
 use std::alloc::Global;
-use vd_base::{HostId, Texts, Words};
-use vd_base_lists::Items;
+use vd_base::{HostId, Items, Texts, Words};
 use vd_outside::Spawner;
 
 /// Starts a child for each host, in their order: the numbers of the children.

@@ -10,3 +10,6 @@ mod Listeners
 mod Numbers
 mod Others
 mod Refusals
+mod Lines
+mod HostStartPlaying
+mod Trees

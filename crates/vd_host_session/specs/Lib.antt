@@ -4,3 +4,5 @@ pub mod Meetings
 pub mod Peers
 pub mod Plays
 pub mod Stages
+pub mod Packets
+pub mod Starts

@@ -1,7 +1,7 @@
 use thiserror::Error;
 use vd_base::HostId;
-use vd_deal_items::DealKind;
 use vd_link::Digest;
+use vd_tape::DealKind;
 
 /// Why a host did not run to its end.
 #[derive(Clone, Copy, Debug, PartialEq, Eq, Error)]

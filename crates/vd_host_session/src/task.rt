@@ -1,8 +1,7 @@
 ghost use Rattle.std.specs.Prelude.{◌≡◌, ◌<◌, length};
 ghost use Rattle.vd_host_session.specs.Peers.{number_at, address_of};
 
-use vd_base::{HostId, Text};
-use vd_base_lists::Items;
+use vd_base::{HostId, Items, Text};
 use vd_link::Digest;
 
 /// A host that is to be run: its number, the digest of its plan, and the addresses of its pairs in the order of its peers.

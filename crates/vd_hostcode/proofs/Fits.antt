@@ -14,7 +14,7 @@ use Rattle.vd_execution.specs.declared.instructions.Instr.TheVariants as instr
 use Rattle.vd_execution.specs.Code.{Code, Finished}
 use Rattle.vd_execution.specs.Text.{Open, AfterEnd, AfterElse, Reading, with_instr, read_before, read, IsCodeOf}
 use Rattle.vd_execution.specs.Ranges.{ActionFits, CodeFits, IsPacketRange, PacketsFit, depth, IsInRange}
-use Rattle.vd_host_text.specs.Outcome.{HasPeer}
+use Rattle.vd_hostcode.specs.HostTextOutcome.{HasPeer}
 use Rattle.vd_hostcode.specs.Ranges.{is_register, are_registers, is_array, is_peer, is_share, action_is_within, packet_is_within, is_within, opens, open_behind, numbers, breaks, first_broken}
 
 -- ---- one instruction

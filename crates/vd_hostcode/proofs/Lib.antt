@@ -4,3 +4,16 @@ mod Fits
 mod First
 mod Counting
 mod Outcomes
+mod WordExact
+mod Many
+mod LinesExact
+mod NamesExact
+mod FileExact
+mod HostTextSteps
+mod AmongSteps
+mod OpenBlocks
+mod CodeSteps
+mod HostSteps
+mod NamesSteps
+mod Programs
+mod Written

@@ -6,13 +6,13 @@ use Rattle.vd_execution.specs.declared.instructions.Instr.{Instr}
 use Rattle.vd_execution.specs.declared.instructions.Instr.TheVariants as instr
 use Rattle.vd_execution.specs.Code.{Code, Finished, Then, Send, Recv, Choose, Repeat}
 use Rattle.vd_execution.specs.Text.{register, Open, AfterEnd, AfterElse, Reading, read_before, read, IsCodeOf}
-use Rattle.vd_host_text.specs.declared.words.Word.{Word}
-use Rattle.vd_host_text.specs.declared.words.Word.TheVariants as word
-use Rattle.vd_host_text.specs.declared.blocks.Block.{Block}
-use Rattle.vd_host_text.specs.declared.blocks.Block.TheVariants as block
-use Rattle.vd_host_text.specs.declared.blocks.Arrays.{Arrays}
-use Rattle.vd_host_text.specs.Lines.{Line, State, start, allows, after, is_last, may_else, may_end, none_open, outer, Leads}
-use Rattle.vd_host_text.specs.Reading.{at, peer, instr_of, code_of}
+use Rattle.vd_hostcode.specs.declared.host_text.words.Word.{Word}
+use Rattle.vd_hostcode.specs.declared.host_text.words.Word.TheVariants as word
+use Rattle.vd_hostcode.specs.declared.host_text.blocks.Block.{Block}
+use Rattle.vd_hostcode.specs.declared.host_text.blocks.Block.TheVariants as block
+use Rattle.vd_hostcode.specs.declared.host_text.blocks.Arrays.{Arrays}
+use Rattle.vd_hostcode.specs.Lines.{Line, State, start, allows, after, is_last, may_else, may_end, none_open, outer, Leads}
+use Rattle.vd_hostcode.specs.Reading.{at, peer, instr_of, code_of}
 
 -- the blocks that are open here, and those whose end was read behind
 abbrev IsBlock : Block → Open → Type 0

@@ -10,12 +10,12 @@ use Rattle.vd_execution.specs.declared.instructions.Instr.{Instr}
 use Rattle.vd_execution.specs.declared.instructions.Instr.TheVariants as instr
 use Rattle.vd_execution.specs.Code.{Code, Finished}
 use Rattle.vd_execution.specs.Text.{Open, AfterEnd, AfterElse, Reading, at_else, read_before, read, IsCodeOf}
-use Rattle.vd_host_text.specs.declared.program.HostProgram.{HostProgram}
-use Rattle.vd_host_text.specs.Text.{program_text}
-use Rattle.vd_host_text.specs.File.{has_arrays, from_version, IsFile}
-use Rattle.vd_host_text.specs.Heading.{file_read}
-use Rattle.vd_host_text.specs.Outcome.{file_of, program_of, IsHostFile, IsFileOf}
-use Rattle.vd_host_text.proofs.Front.{follow_grammar, text_is_file}
+use Rattle.vd_hostcode.specs.declared.host_text.program.HostProgram.{HostProgram}
+use Rattle.vd_hostcode.specs.Text.{program_text}
+use Rattle.vd_hostcode.specs.File.{has_arrays, from_version, IsFile}
+use Rattle.vd_hostcode.specs.Heading.{file_read}
+use Rattle.vd_hostcode.specs.HostTextOutcome.{file_of, program_of, IsHostFile, IsFileOf}
+use Rattle.vd_hostcode.proofs.Programs.{follow_grammar, text_is_file}
 use Rattle.vd_hostcode.specs.declared.fault.CodeFault.{CodeFault}
 use Rattle.vd_hostcode.specs.declared.fault.CodeFault.TheVariants.{Text, Range, Memory}
 use Rattle.vd_hostcode.specs.Ranges.{numbers, breaks, open_in, count_in, BreaksFrom, static_steps, most_steps, Breaks, IsFirstBroken, IsWithinRanges, first_broken}

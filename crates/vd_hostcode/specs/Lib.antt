@@ -1,3 +1,10 @@
 pub mod Ranges
 pub mod Counts
 pub mod Outcome
+pub mod Words
+pub mod Text
+pub mod Lines
+pub mod Reading
+pub mod File
+pub mod Heading
+pub mod HostTextOutcome

@@ -8,8 +8,8 @@ use Rattle.vd_execution.specs.declared.instructions.Instr.{Instr}
 use Rattle.vd_execution.specs.Code.{Code}
 use Rattle.vd_execution.specs.Text.{IsCodeOf}
 use Rattle.vd_execution.specs.Ranges.{IsInRange}
-use Rattle.vd_host_text.specs.declared.program.HostProgram.{HostProgram}
-use Rattle.vd_host_text.specs.Outcome.{IsHostFile, IsFileOf}
+use Rattle.vd_hostcode.specs.declared.host_text.program.HostProgram.{HostProgram}
+use Rattle.vd_hostcode.specs.HostTextOutcome.{IsHostFile, IsFileOf}
 use Rattle.vd_hostcode.specs.declared.fault.CodeFault.{CodeFault}
 use Rattle.vd_hostcode.specs.declared.fault.CodeFault.TheVariants.{Text, Range, Memory}
 use Rattle.vd_hostcode.specs.Ranges.{IsFirstBroken, IsWithinRanges, static_steps, most_steps}

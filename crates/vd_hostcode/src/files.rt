@@ -3,18 +3,18 @@
 ghost use Rattle.std.specs.Prelude.{◌≡◌, ◌≢◌, ◌≤◌, Err, IfOk, IfErr, length};
 ghost use Rattle.vd_execution.specs.Code.{Code};
 ghost use Rattle.vd_execution.specs.Text.{IsCodeOf};
-ghost use Rattle.vd_host_text.specs.Outcome.{IsFileOf};
+ghost use Rattle.vd_hostcode.specs.HostTextOutcome.{IsFileOf};
 ghost use Rattle.vd_hostcode.specs.declared.fault.CodeFault.TheVariants as code_fault;
 ghost use Rattle.vd_hostcode.specs.Outcome.{Answers, CanRun, Checked, IsHeaded, IsOutcome, IsTextRefused};
 
 use crate::fault::CodeFault;
+use crate::host_text::{HostProgram, parse};
 use crate::ranges::{first_broken, numbered};
 use crate::steps::count_steps;
 use std::alloc::Global;
 use vd_base::{FileFault, HostId};
 use vd_base_codec::offset;
 use vd_execution::Instr;
-use vd_host_text::{HostProgram, parse};
 
 /// The most static steps of a program.
 const STEPS: u64 = 4_294_967_295;

@@ -8,7 +8,7 @@ ghost use Rattle.vd_hostcode.specs.Counts.{capped, CountsOn};
 
 use crate::blocks::Behind;
 use std::alloc::{AllocError, Global};
-use vd_base_lists::Items;
+use vd_base::Items;
 use vd_execution::Instr;
 
 /// One more than the most static steps of a program. No count goes further.

@@ -21,12 +21,13 @@ use Rattle.vd_duet.specs.Calls.{Places, hosts_of, register_of}
 use Rattle.vd_duet.specs.Laws.{AreKnown, IsHost, IsIn}
 use Rattle.vd_duet.proofs.Front.{taken_known, taken_there}
 use Rattle.vd_clear.specs.Copies.{each_made, written_by}
-use Rattle.vd_choreography.proofs.Front.{AreApart}
+use Rattle.vd_split.proofs.Front.{AreApart}
 use Rattle.vd_backend_laws.specs.Parts.{Parts, zeros_at, index_of, cell_read, cell_written}
 use Rattle.vd_backend_laws.specs.Suite.{Names, cell}
 use Rattle.vd_backend_laws.proofs.Front.{In, in_cell, hosts_cell, register_cell}
-use Rattle.vd_integrity_backends.specs.Departing.{AreRight, RunsGadgets}
-use Rattle.vd_integrity_backends.proofs.Front.{each_step, written}
+use Rattle.vd_integrity_runs.specs.Departing.{AreRight, RunsGadgets}
+use Rattle.vd_integrity_runs.proofs.Copies.{each_step}
+use Rattle.vd_integrity_runs.proofs.Local.{written}
 use Rattle.vd_integrity_runs.proofs.Touching.{AllTouch, runs_framed}
 use Rattle.vd_integrity_runs.proofs.Fresh.{Free, IsFresh, each_fresh, known_later, taken_fresh}
 use Rattle.vd_integrity_runs.proofs.Calls.{right_register, still_of}

@@ -20,24 +20,24 @@ use Rattle.vd_execution.specs.Joint.{Hosts, Part}
 use Rattle.vd_execution.specs.World.{Tape}
 use Rattle.vd_execution.specs.Deals.{IsValidDeal}
 use Rattle.vd_duet.specs.Laws.{IsHost}
-use Rattle.vd_choreography.specs.Block.{Block, End, Let, NewVar, NewArray, Store, Put, Output, If, For, each}
-use Rattle.vd_choreography.specs.Joint.{Each as EachOf, IsIn, choice}
-use Rattle.vd_choreography.specs.Suite.{Word, Cells, Made, Suite, Laws, picked, holders_among}
-use Rattle.vd_choreography.specs.Emission.{Emitting, Emitted, Emission, delivered, right_made, if_made, for_made, loop_registers, after_loop_registers}
-use Rattle.vd_choreography.specs.Validity.{Fits, Placed, RightFits, RightPlaced, Reaches, emission_of, turns_at}
-use Rattle.vd_choreography.proofs.Front.{InRow, front_kept, row_front, row_back, and_left, and_right, or_left, or_right, Use, Binding, Variable, Array, Sees, content, with_use, After, TurnsIn, array_after, let_after, output_after, put_after, store_after, turns_past, unchanging_past, var_after, picked_join, operand_of, slots, sees, effect_of, turn_here, turn_later, turns_act, no_slots, both_idle, means}
-use Rattle.vd_choreography.proofs.Front as loops
+use Rattle.vd_split.specs.Block.{Block, End, Let, NewVar, NewArray, Store, Put, Output, If, For, each}
+use Rattle.vd_split.specs.Joint.{Each as EachOf, IsIn, choice}
+use Rattle.vd_split.specs.Suite.{Word, Cells, Made, Suite, Laws, picked, holders_among}
+use Rattle.vd_split.specs.Emission.{Emitting, Emitted, Emission, delivered, right_made, if_made, for_made, loop_registers, after_loop_registers}
+use Rattle.vd_split.specs.Validity.{Fits, Placed, RightFits, RightPlaced, Reaches, emission_of, turns_at}
+use Rattle.vd_split.proofs.Front.{InRow, front_kept, row_front, row_back, and_left, and_right, or_left, or_right, Use, Binding, Variable, Array, Sees, content, with_use, After, TurnsIn, array_after, let_after, output_after, put_after, store_after, turns_past, unchanging_past, var_after, picked_join, operand_of, slots, sees, effect_of, turn_here, turn_later, turns_act, no_slots, both_idle, means}
+use Rattle.vd_split.proofs.Front as loops
 use Rattle.vd_backend_laws.specs.Machine.{machine}
 use Rattle.vd_backend_laws.specs.Parts.{Parts, suite_calls}
 use Rattle.vd_backend_laws.specs.Suite.{IsOver, Names, suite, AreGiven}
-use Rattle.vd_noninter_laws.specs.Agreement.{Agree}
-use Rattle.vd_noninter_laws.specs.Flowing.{Knowledge, only_with, right_flows}
-use Rattle.vd_noninter_laws.proofs.Front.{agree_sym, agree_trans}
-use Rattle.vd_integrity_backends.specs.Departing.{RunsGadgets}
-use Rattle.vd_integrity_backends.specs.Copies.{IsInClear}
-use Rattle.vd_integrity_backends.proofs.Front.{gadgets_parts}
-use Rattle.vd_integrity_endorsed.specs.Endorsed.{Given, Doing, all_done, bound, given_step, is_given}
-use Rattle.vd_integrity_endorsed.proofs.Front.{hides, flows, run_of, hidden_still, hidden_runs, hidden_flows}
+use Rattle.vd_noninter.specs.Agreement.{Agree}
+use Rattle.vd_noninter.specs.Flowing.{Knowledge, only_with, right_flows}
+use Rattle.vd_noninter.proofs.Front.{agree_sym, agree_trans}
+use Rattle.vd_integrity_runs.specs.Departing.{RunsGadgets}
+use Rattle.vd_integrity_runs.specs.Copies.{IsInClear}
+use Rattle.vd_integrity_runs.proofs.Steps.{gadgets_parts}
+use Rattle.vd_integrity_runs.specs.Endorsed.{Given, Doing, all_done, bound, given_step, is_given}
+use Rattle.vd_integrity_runs.proofs.Hiding.{hides, flows, run_of, hidden_still, hidden_runs, hidden_flows}
 use Rattle.vd_integrity_runs.specs.Runs.{GoThisWay, IsOneWord, RunsBlock, RunsTurns, turn_begun}
 use Rattle.vd_integrity_runs.proofs.Touching.{IsFramed, runs_framed}
 use Rattle.vd_integrity_runs.proofs.Fresh.{Free, IsFresh}

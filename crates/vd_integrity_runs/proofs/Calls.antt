@@ -15,9 +15,12 @@ use Rattle.vd_duet.specs.Builder.{next_at}
 use Rattle.vd_duet.specs.Calls.{Calls, Made, Places, hosts_of, register_of}
 use Rattle.vd_duet.specs.Laws.{AreBelow, AreKnown, IsHost, NumberFits}
 use Rattle.vd_clear.specs.Copies.{clear_calls, each_made, written_by}
-use Rattle.vd_integrity_backends.specs.Departing.{AreRight, AreStill, GivesRight, RunsGadgets}
-use Rattle.vd_integrity_backends.specs.Copies.{AreOperands, IsInClear, IsOperand, IsRenewed, SomeKeeps}
-use Rattle.vd_integrity_backends.proofs.Front.{copies_stay_right, each_step, written, below_later, right_later, equal_of}
+use Rattle.vd_integrity_runs.specs.Departing.{AreRight, AreStill, GivesRight, RunsGadgets}
+use Rattle.vd_integrity_runs.specs.Copies.{AreOperands, IsInClear, IsOperand, IsRenewed, SomeKeeps}
+use Rattle.vd_integrity_runs.proofs.Copies.{copies_stay_right, each_step}
+use Rattle.vd_integrity_runs.proofs.Local.{written}
+use Rattle.vd_integrity_runs.proofs.Shown.{below_later, right_later}
+use Rattle.vd_integrity_runs.proofs.Steps.{equal_of}
 use Rattle.vd_backend_laws.specs.Moves.{moved, only}
 use Rattle.vd_backend_laws.specs.Parts.{back_end, route, turned}
 use Rattle.vd_integrity_runs.proofs.Touching.{IsFramed}

@@ -17,20 +17,20 @@ use Rattle.vd_execution.specs.Joint.{Hosts, Part}
 use Rattle.vd_execution.specs.World.{Tape}
 use Rattle.vd_execution.specs.Deals.{IsValidDeal}
 use Rattle.vd_duet.specs.Laws.{AreKnown, IsHost}
-use Rattle.vd_choreography.specs.Joint.{Each as EachOf}
-use Rattle.vd_choreography.specs.Suite.{Cells, Made, Below, Laws, holders_among}
-use Rattle.vd_choreography.specs.Emission.{Emitting, delivered}
-use Rattle.vd_choreography.specs.Validity.{Reaches}
-use Rattle.vd_choreography.proofs.Front.{Binding, Array, Sees, with_use, item_put, other_array, other_word, tied_past, Reached, picked_join, ready_past, index_reached, moved, operand_of}
+use Rattle.vd_split.specs.Joint.{Each as EachOf}
+use Rattle.vd_split.specs.Suite.{Cells, Made, Below, Laws, holders_among}
+use Rattle.vd_split.specs.Emission.{Emitting, delivered}
+use Rattle.vd_split.specs.Validity.{Reaches}
+use Rattle.vd_split.proofs.Front.{Binding, Array, Sees, with_use, item_put, other_array, other_word, tied_past, Reached, picked_join, ready_past, index_reached, moved, operand_of}
 use Rattle.vd_backend_laws.specs.Machine.{machine}
 use Rattle.vd_backend_laws.specs.Parts.{Parts, suite_calls, index_of}
 use Rattle.vd_backend_laws.specs.Suite.{IsOver, Names, cell, suite, AreGiven}
 use Rattle.vd_backend_laws.proofs.Front.{index_at, In, holder_at, holders_apart, host_known, picked_in}
-use Rattle.vd_noninter_laws.specs.Flowing.{Knowledge, only_with}
-use Rattle.vd_noninter_laws.proofs.Front.{only}
-use Rattle.vd_integrity_backends.specs.Departing.{AreRight, RunsGadgets}
-use Rattle.vd_integrity_backends.specs.Copies.{IsInClear}
-use Rattle.vd_integrity_endorsed.specs.Endorsed.{Doing, bound, given_step}
+use Rattle.vd_noninter.specs.Flowing.{Knowledge, only_with}
+use Rattle.vd_noninter.proofs.Front.{only}
+use Rattle.vd_integrity_runs.specs.Departing.{AreRight, RunsGadgets}
+use Rattle.vd_integrity_runs.specs.Copies.{IsInClear}
+use Rattle.vd_integrity_runs.specs.Endorsed.{Doing, bound, given_step}
 use Rattle.vd_integrity_runs.proofs.Touching.{IsFramed, runs_framed}
 use Rattle.vd_integrity_runs.proofs.Fresh.{Free, IsFresh, cells_fresh, get_fresh, moved_fresh}
 use Rattle.vd_integrity_runs.proofs.Calls.{IsKeptAt, moved_right, operand_later, still_of}

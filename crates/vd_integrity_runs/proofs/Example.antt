@@ -8,10 +8,10 @@ use Rattle.vd_execution.specs.Text.{register}
 use Rattle.vd_execution.specs.World.{Tape}
 use Rattle.vd_backend_laws.specs.Given.{zero_deal}
 use Rattle.vd_backend_laws.specs.Whole.{inputs_of}
-use Rattle.vd_choreography.specs.Emission.{emitting_at_start}
+use Rattle.vd_split.specs.Emission.{emitting_at_start}
 use Rattle.vd_backend_laws.specs.Parts.{suite_calls}
-use Rattle.vd_integrity_backends.specs.Departing.{after_telling}
-use Rattle.vd_integrity_backends.specs.Example.{carol_departs}
+use Rattle.vd_integrity_runs.specs.Departing.{after_telling}
+use Rattle.vd_integrity_runs.specs.IntegrityBackendsExample.{carol_departs}
 use Rattle.vd_integrity_runs.specs.Example.{PrintsWhatSheSent, becomes_trusted, handed_in, handed_on, places}
 use Rattle.vd_integrity_runs.specs.Runs.{RunsBlock}
 

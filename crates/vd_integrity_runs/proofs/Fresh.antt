@@ -18,7 +18,7 @@ use Rattle.vd_duet.specs.Calls.{Made, Places, hosts_of, register_of}
 use Rattle.vd_duet.specs.Laws.{AreKnown, Each}
 use Rattle.vd_duet.proofs.Front.{taken_bounds, taken_known}
 use Rattle.vd_clear.specs.Copies.{adopted, applied_at, compared, each_made, first_register, kept_by, literal_at, operated, passed, shown, told, with_number, written_by}
-use Rattle.vd_integrity_backends.specs.Copies.{IsInClear}
+use Rattle.vd_integrity_runs.specs.Copies.{IsInClear}
 use Rattle.vd_backend_laws.specs.Moves.{moved, only}
 use Rattle.vd_backend_laws.specs.Parts.{Parts, back_end, route, turn_part, turned, index_of, zeros_at, new_cells, cell_read}
 use Rattle.vd_integrity_runs.proofs.Touching.{Registered, AllTouch, ActTouches, touch_append, touch_wider}

@@ -15,22 +15,22 @@ use Rattle.vd_execution.specs.Joint.{Hosts, Part}
 use Rattle.vd_execution.specs.World.{Tape}
 use Rattle.vd_execution.specs.Deals.{IsValidDeal}
 use Rattle.vd_duet.specs.Laws.{AreKnown, Each, IsHost}
-use Rattle.vd_choreography.specs.Block.{Block, End, Let, NewVar, NewArray, Store, Put, Output, If, For, each}
-use Rattle.vd_choreography.specs.Joint.{Each as EachOf}
-use Rattle.vd_choreography.specs.Suite.{Word, Ready, Operand}
-use Rattle.vd_choreography.specs.Emission.{Emission, delivered}
-use Rattle.vd_choreography.specs.Validity.{Fits, Placed, RightFits, RightPlaced, emission_of}
-use Rattle.vd_choreography.proofs.Front.{or_left, or_right, Between, between_of, ready_past, operand_past}
+use Rattle.vd_split.specs.Block.{Block, End, Let, NewVar, NewArray, Store, Put, Output, If, For, each}
+use Rattle.vd_split.specs.Joint.{Each as EachOf}
+use Rattle.vd_split.specs.Suite.{Word, Ready, Operand}
+use Rattle.vd_split.specs.Emission.{Emission, delivered}
+use Rattle.vd_split.specs.Validity.{Fits, Placed, RightFits, RightPlaced, emission_of}
+use Rattle.vd_split.proofs.Front.{or_left, or_right, Between, between_of, ready_past, operand_past}
 use Rattle.vd_backend_laws.specs.Parts.{Parts, suite_calls}
 use Rattle.vd_backend_laws.specs.Suite.{IsOver, suite, AreGiven}
 use Rattle.vd_backend_laws.proofs.Front.{holder_at, host_known, input_stands}
-use Rattle.vd_noninter_registers.proofs.Front.{below}
-use Rattle.vd_noninter_laws.specs.Flowing.{Knowledge, right_hides}
-use Rattle.vd_noninter_laws.proofs.Front.{and_of, not_if}
-use Rattle.vd_integrity_backends.specs.Departing.{RunsGadgets}
-use Rattle.vd_integrity_backends.specs.Copies.{IsInClear, IsOperand}
-use Rattle.vd_integrity_backends.proofs.Front.{gadgets_parts}
-use Rattle.vd_integrity_endorsed.proofs.Front.{hides}
+use Rattle.vd_noninter_protocols.proofs.Front.{below}
+use Rattle.vd_noninter.specs.Flowing.{Knowledge, right_hides}
+use Rattle.vd_noninter.proofs.Front.{and_of, not_if}
+use Rattle.vd_integrity_runs.specs.Departing.{RunsGadgets}
+use Rattle.vd_integrity_runs.specs.Copies.{IsInClear, IsOperand}
+use Rattle.vd_integrity_runs.proofs.Steps.{gadgets_parts}
+use Rattle.vd_integrity_runs.proofs.Hiding.{hides}
 use Rattle.vd_integrity_runs.specs.Runs.{GoThisWay}
 use Rattle.vd_integrity_runs.proofs.Touching.{runs_framed}
 use Rattle.vd_integrity_runs.proofs.Fresh.{Free, IsFresh, fresh_none, fresh_on, moved_fresh}

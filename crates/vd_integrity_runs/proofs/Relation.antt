@@ -11,14 +11,14 @@ use Rattle.vd_execution.specs.Step.{Inputs}
 use Rattle.vd_execution.specs.World.{Tape}
 use Rattle.vd_duet.specs.Calls.{Places, hosts_of}
 use Rattle.vd_duet.specs.Laws.{AreBelow, IsIn}
-use Rattle.vd_choreography.specs.Suite.{Content, Word, Cells, Suite}
-use Rattle.vd_choreography.proofs.Front.{front_kept, at_end, Use, Binding, Variable, Array, Sees, changing, content, with_use, Which, New, Old, which, Distinct, Same, Other, Tied, Unchanging}
+use Rattle.vd_split.specs.Suite.{Content, Word, Cells, Suite}
+use Rattle.vd_split.proofs.Front.{front_kept, at_end, Use, Binding, Variable, Array, Sees, changing, content, with_use, Which, New, Old, which, Distinct, Same, Other, Tied, Unchanging}
 use Rattle.vd_backend_laws.specs.Machine.{machine}
 use Rattle.vd_backend_laws.specs.Parts.{Parts, has_back_end}
 use Rattle.vd_backend_laws.specs.Suite.{cell, Names, stands, suite}
 use Rattle.vd_backend_laws.proofs.Front.{all_below, cells_of, in_names}
-use Rattle.vd_integrity_backends.specs.Departing.{AreRight}
-use Rattle.vd_integrity_backends.specs.Copies.{IsInClear, IsOperand}
+use Rattle.vd_integrity_runs.specs.Departing.{AreRight}
+use Rattle.vd_integrity_runs.specs.Copies.{IsInClear, IsOperand}
 use Rattle.vd_integrity_runs.proofs.Touching.{IsFramed}
 
 pub has_back : (p : Proto) → IsInClear p → has_back_end p ≡ true

@@ -17,20 +17,20 @@ use Rattle.vd_execution.specs.World.{Tape}
 use Rattle.vd_execution.specs.Deals.{IsValidDeal}
 use Rattle.vd_execution.proofs.Front.{operation_word}
 use Rattle.vd_duet.specs.Laws.{AreKnown, Each}
-use Rattle.vd_choreography.specs.Joint.{Each as EachOf}
-use Rattle.vd_choreography.specs.Suite.{Word, Made, Gives, Ready, Laws}
-use Rattle.vd_choreography.specs.Emission.{Emitting, all_moved, right_made}
-use Rattle.vd_choreography.specs.Validity.{RightFits, RightPlaced}
-use Rattle.vd_choreography.proofs.Front.{Binding, Variable, Sees, Between, between_of, ready_past, Movable, all_past, movables, operand_of_variable as tied_variable}
+use Rattle.vd_split.specs.Joint.{Each as EachOf}
+use Rattle.vd_split.specs.Suite.{Word, Made, Gives, Ready, Laws}
+use Rattle.vd_split.specs.Emission.{Emitting, all_moved, right_made}
+use Rattle.vd_split.specs.Validity.{RightFits, RightPlaced}
+use Rattle.vd_split.proofs.Front.{Binding, Variable, Sees, Between, between_of, ready_past, Movable, all_past, movables, operand_of_variable as tied_variable}
 use Rattle.vd_backend_laws.specs.Parts.{Parts, suite_calls}
 use Rattle.vd_backend_laws.specs.Suite.{IsOver, suite, AreGiven}
 use Rattle.vd_backend_laws.proofs.Front.{holder_at, host_known, all_below, cells_of, in_names, suite_laws}
-use Rattle.vd_noninter_laws.specs.Flowing.{Knowledge, only_with, right_flows}
-use Rattle.vd_noninter_laws.proofs.Front.{only}
-use Rattle.vd_integrity_backends.specs.Departing.{AreRight, RunsGadgets}
-use Rattle.vd_integrity_backends.specs.Copies.{AreOperands, IsInClear, IsOperand}
-use Rattle.vd_integrity_backends.proofs.Front.{gadgets_parts}
-use Rattle.vd_integrity_endorsed.specs.Endorsed.{is_given}
+use Rattle.vd_noninter.specs.Flowing.{Knowledge, only_with, right_flows}
+use Rattle.vd_noninter.proofs.Front.{only}
+use Rattle.vd_integrity_runs.specs.Departing.{AreRight, RunsGadgets}
+use Rattle.vd_integrity_runs.specs.Copies.{AreOperands, IsInClear, IsOperand}
+use Rattle.vd_integrity_runs.proofs.Steps.{gadgets_parts}
+use Rattle.vd_integrity_runs.specs.Endorsed.{is_given}
 use Rattle.vd_integrity_runs.proofs.Touching.{IsFramed, runs_framed}
 use Rattle.vd_integrity_runs.proofs.Fresh.{Free, IsFresh, fresh_none, fresh_on, known_later, literal_fresh, keep_fresh, apply_fresh, turn_fresh, moved_fresh}
 use Rattle.vd_integrity_runs.proofs.Calls.{IsKeptAt, apply_right, keep_right, literal_right, moved_right, operand_later, still_of, turn_right}

@@ -27,19 +27,20 @@ use Rattle.vd_duet.specs.Builder.{next_at}
 use Rattle.vd_duet.specs.Calls.{Calls, Places, hosts_of, register_of}
 use Rattle.vd_duet.specs.Laws.{AreKnown, IsHost, IsIn}
 use Rattle.vd_clear.specs.Copies.{renewed}
-use Rattle.vd_choreography.specs.Suite.{Made}
-use Rattle.vd_choreography.specs.Emission.{Emitting, and_on, right_made}
-use Rattle.vd_choreography.specs.Validity.{RightFits, RightPlaced}
-use Rattle.vd_choreography.proofs.Front.{Use, Binding, Variable, Array, Sees, content, with_use, item_put, other_word, moved}
+use Rattle.vd_split.specs.Suite.{Made}
+use Rattle.vd_split.specs.Emission.{Emitting, and_on, right_made}
+use Rattle.vd_split.specs.Validity.{RightFits, RightPlaced}
+use Rattle.vd_split.proofs.Front.{Use, Binding, Variable, Array, Sees, content, with_use, item_put, other_word, moved}
 use Rattle.vd_backend_laws.specs.Parts.{Parts, back_end, suite_calls}
 use Rattle.vd_backend_laws.specs.Suite.{IsOver, Names, suite, AreGiven}
 use Rattle.vd_backend_laws.proofs.Front.{in_names}
-use Rattle.vd_noninter_laws.specs.Flowing.{Knowledge, only_with, right_flows}
-use Rattle.vd_noninter_laws.proofs.Front.{only, item_set_other, later_at}
-use Rattle.vd_integrity_backends.specs.Departing.{AreRight, RunsGadgets}
-use Rattle.vd_integrity_backends.specs.Copies.{IsInClear, IsOperand}
-use Rattle.vd_integrity_backends.proofs.Front.{below_later, gadgets_parts}
-use Rattle.vd_integrity_endorsed.specs.Endorsed.{Given, Doing, bound, given_step, is_given}
+use Rattle.vd_noninter.specs.Flowing.{Knowledge, only_with, right_flows}
+use Rattle.vd_noninter.proofs.Front.{only, item_set_other, later_at}
+use Rattle.vd_integrity_runs.specs.Departing.{AreRight, RunsGadgets}
+use Rattle.vd_integrity_runs.specs.Copies.{IsInClear, IsOperand}
+use Rattle.vd_integrity_runs.proofs.Shown.{below_later}
+use Rattle.vd_integrity_runs.proofs.Steps.{gadgets_parts}
+use Rattle.vd_integrity_runs.specs.Endorsed.{Given, Doing, bound, given_step, is_given}
 use Rattle.vd_integrity_runs.specs.Runs.{IsOneWord}
 use Rattle.vd_integrity_runs.proofs.Touching.{AllTouch, IsFramed, runs_framed}
 use Rattle.vd_integrity_runs.proofs.Fresh.{Free, IsFresh, fresh_on, keep_fresh, moved_fresh, moved_hosts}

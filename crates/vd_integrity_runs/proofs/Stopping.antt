@@ -17,22 +17,22 @@ use Rattle.vd_semantics.specs.ProgramMeaning.{SlotState, word_at, after_right}
 use Rattle.vd_execution.specs.Joint.{Hosts}
 use Rattle.vd_execution.specs.World.{Tape}
 use Rattle.vd_execution.specs.Deals.{IsValidDeal}
-use Rattle.vd_choreography.specs.Block.{Block, End, Let, NewVar, NewArray, Store, Put, Output, If, For, each}
-use Rattle.vd_choreography.specs.Joint.{choice}
-use Rattle.vd_choreography.specs.Suite.{Laws, holders_among}
-use Rattle.vd_choreography.specs.Emission.{Emission, Emitted, delivered}
-use Rattle.vd_choreography.specs.Validity.{Fits, Placed, Reaches, turns_at}
-use Rattle.vd_choreography.proofs.Front.{InRow, row_front, row_back, and_left, and_right, or_left, or_right, Binding, Variable, Array, Sees, with_use, After, TurnsIn, array_after, let_after, output_after, put_after, store_after, turns_past, var_after, slots, sees, effect_of, turn_here, turn_later, turns_act, no_slots}
-use Rattle.vd_choreography.proofs.Front as loops
+use Rattle.vd_split.specs.Block.{Block, End, Let, NewVar, NewArray, Store, Put, Output, If, For, each}
+use Rattle.vd_split.specs.Joint.{choice}
+use Rattle.vd_split.specs.Suite.{Laws, holders_among}
+use Rattle.vd_split.specs.Emission.{Emission, Emitted, delivered}
+use Rattle.vd_split.specs.Validity.{Fits, Placed, Reaches, turns_at}
+use Rattle.vd_split.proofs.Front.{InRow, row_front, row_back, and_left, and_right, or_left, or_right, Binding, Variable, Array, Sees, with_use, After, TurnsIn, array_after, let_after, output_after, put_after, store_after, turns_past, var_after, slots, sees, effect_of, turn_here, turn_later, turns_act, no_slots}
+use Rattle.vd_split.proofs.Front as loops
 use Rattle.vd_backend_laws.specs.Machine.{machine}
 use Rattle.vd_backend_laws.specs.Parts.{Parts, suite_calls}
 use Rattle.vd_backend_laws.specs.Suite.{IsOver, suite, AreGiven}
-use Rattle.vd_noninter_laws.specs.Flowing.{Knowledge, only_with, right_flows}
-use Rattle.vd_integrity_backends.specs.Departing.{RunsGadgets}
-use Rattle.vd_integrity_backends.specs.Copies.{IsInClear}
-use Rattle.vd_integrity_backends.proofs.Front.{gadgets_parts}
-use Rattle.vd_integrity_endorsed.specs.Endorsed.{Given, Doing, all_done, bound, given_step}
-use Rattle.vd_integrity_endorsed.proofs.Front.{hides, flows, run_of, hidden_still}
+use Rattle.vd_noninter.specs.Flowing.{Knowledge, only_with, right_flows}
+use Rattle.vd_integrity_runs.specs.Departing.{RunsGadgets}
+use Rattle.vd_integrity_runs.specs.Copies.{IsInClear}
+use Rattle.vd_integrity_runs.proofs.Steps.{gadgets_parts}
+use Rattle.vd_integrity_runs.specs.Endorsed.{Given, Doing, all_done, bound, given_step}
+use Rattle.vd_integrity_runs.proofs.Hiding.{hides, flows, run_of, hidden_still}
 use Rattle.vd_integrity_runs.specs.Runs.{GoThisWay, RunsInto, RunsTurns, turn_begun}
 use Rattle.vd_integrity_runs.specs.Trusted.{Begins}
 use Rattle.vd_integrity_runs.proofs.Calls.{IsKeptAt}

@@ -18,35 +18,35 @@ use Rattle.vd_constraints.proofs.Front.{well_made_scoped}
 use Rattle.vd_space.specs.Reading.{problem_of}
 use Rattle.vd_execution.specs.Joint.{Hosts, fresh}
 use Rattle.vd_execution.specs.World.{Tape}
-use Rattle.vd_choreography.specs.Block.{block_of, each}
-use Rattle.vd_choreography.specs.Emission.{Emission, Emitting, emitting_at_start, in_turn, parts_at, stmt_emission}
-use Rattle.vd_choreography.specs.Validity.{emission_of}
+use Rattle.vd_split.specs.Block.{block_of, each}
+use Rattle.vd_split.specs.Emission.{Emission, Emitting, emitting_at_start, in_turn, parts_at, stmt_emission}
+use Rattle.vd_split.specs.Validity.{emission_of}
 use Rattle.vd_core.specs.Numbers.{NumbersFit}
-use Rattle.vd_choreography.specs.Outcome.{Starts}
-use Rattle.vd_choreography.proofs.Front.{fold_each, InRow, row_of, Use, Binding, Variable, Array, Sees, slots, sees}
+use Rattle.vd_split.specs.Outcome.{Starts}
+use Rattle.vd_split.proofs.Front.{fold_each, InRow, row_of, Use, Binding, Variable, Array, Sees, slots, sees}
 use Rattle.vd_semantics.specs.ProgramMeaning.{word_at}
 use Rattle.vd_backend_laws.specs.Machine.{machine}
 use Rattle.vd_backend_laws.specs.Parts.{suite_calls}
 use Rattle.vd_backend_laws.specs.Suite.{suite}
 use Rattle.vd_backend_laws.specs.Whole.{inputs_of, CanRun}
 use Rattle.vd_backend_laws.proofs.Front.{has_member}
-use Rattle.vd_choreography_validity.specs.Assignments.{IsValidFor}
-use Rattle.vd_choreography_validity.proofs.Front.{can_run}
-use Rattle.vd_noninter_laws.specs.Flowing.{Knowledge, all_flow, flow_step}
-use Rattle.vd_noninter_laws.specs.Reading.{start, visible_slots}
-use Rattle.vd_noninter_laws.specs.Watching.{nothing}
-use Rattle.vd_noninter_laws.proofs.Front.{times, body_splits}
-use Rattle.vd_integrity_laws.specs.Trust.{OfEachProgram, against, becomes_trusted, trusts_slot}
-use Rattle.vd_integrity_laws.proofs.Front.{knowledge, against_is_trust, trusted_flows}
-use Rattle.vd_space_optimum.specs.Cheapest.{IsAssignment}
-use Rattle.vd_integrity_assigned.specs.Keeping.{is_kept}
-use Rattle.vd_integrity_assigned.proofs.Front.{words_guarded}
-use Rattle.vd_noninter_registers.specs.Told.{IsDealt}
-use Rattle.vd_noninter_registers.proofs.Front.{all_fit, no_turns, tied_at_start}
-use Rattle.vd_integrity_backends.specs.Copies.{IsInClear}
-use Rattle.vd_integrity_backends.specs.Departing.{AreRight}
-use Rattle.vd_integrity_endorsed.specs.Endorsed.{Doing, Given, all_done, given_step}
-use Rattle.vd_integrity_endorsed.proofs.Front.{run_of}
+use Rattle.vd_projection.specs.Assignments.{IsValidFor}
+use Rattle.vd_projection.proofs.Front.{can_run}
+use Rattle.vd_noninter.specs.Flowing.{Knowledge, all_flow, flow_step}
+use Rattle.vd_noninter.specs.Reading.{start, visible_slots}
+use Rattle.vd_noninter.specs.Watching.{nothing}
+use Rattle.vd_noninter.proofs.Front.{times, body_splits}
+use Rattle.vd_noninter.specs.Trust.{OfEachProgram, against, becomes_trusted, trusts_slot}
+use Rattle.vd_noninter.proofs.Front.{knowledge, against_is_trust, trusted_flows}
+use Rattle.vd_space.specs.Cheapest.{IsAssignment}
+use Rattle.vd_noninter_protocols.specs.Keeping.{is_kept}
+use Rattle.vd_noninter_protocols.proofs.Front.{words_guarded}
+use Rattle.vd_noninter_protocols.specs.Told.{IsDealt}
+use Rattle.vd_noninter_protocols.proofs.Front.{all_fit, no_turns, tied_at_start}
+use Rattle.vd_integrity_runs.specs.Copies.{IsInClear}
+use Rattle.vd_integrity_runs.specs.Departing.{AreRight}
+use Rattle.vd_integrity_runs.specs.Endorsed.{Doing, Given, all_done, given_step}
+use Rattle.vd_integrity_runs.proofs.Hiding.{run_of}
 use Rattle.vd_integrity_runs.specs.Trusted.{Begins, FrontsAreExplained, IsExplained, IsExplainedSoFar, RunsAreExplained, RunsIntoAttack, RunsWithAttackers, StandInClear, parts_at_end}
 use Rattle.vd_integrity_runs.proofs.Calls.{IsKeptAt}
 use Rattle.vd_integrity_runs.proofs.Statements.{given}

@@ -12,7 +12,7 @@ use Rattle.vd_execution.specs.Step.{Source, Inputs, Cursors, Nothing, Unequal, a
 use Rattle.vd_execution.specs.World.{Tape}
 use Rattle.vd_execution.proofs.Front.{put_other, put_same}
 use Rattle.vd_duet.specs.Laws.{Each}
-use Rattle.vd_integrity_backends.specs.Departing.{RunsGadgets, after_telling}
+use Rattle.vd_integrity_runs.specs.Departing.{RunsGadgets, after_telling}
 
 -- registers of hosts
 abbrev pub Registered : Type 1

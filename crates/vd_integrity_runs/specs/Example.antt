@@ -6,16 +6,16 @@ use Rattle.vd_base.specs.declared.protocols.Proto.TheVariants.{Local, Rep}
 use Rattle.vd_base.specs.HostSets.{host_set}
 use Rattle.vd_core.specs.declared.normal.Right.TheVariants.{Input, Endorse}
 use Rattle.vd_execution.specs.Joint.{Hosts, fresh}
-use Rattle.vd_choreography.specs.Block.{Block, End, Let, Output, each}
-use Rattle.vd_choreography.specs.Emission.{emitting_at_start}
+use Rattle.vd_split.specs.Block.{Block, End, Let, Output, each}
+use Rattle.vd_split.specs.Emission.{emitting_at_start}
 use Rattle.vd_semantics.specs.ProgramMeaning.{state_at_start}
 use Rattle.vd_semantics.specs.World.{world_at_start}
 use Rattle.vd_backend_laws.specs.Given.{zero_deal}
 use Rattle.vd_backend_laws.specs.Parts.{suite_calls}
 use Rattle.vd_backend_laws.specs.Whole.{inputs_of}
-use Rattle.vd_noninter_assigned.specs.Example.{slot}
-use Rattle.vd_integrity_backends.specs.Example.{alice, bob, carol, carol_departs}
-use Rattle.vd_integrity_endorsed.specs.Endorsed.{Given, all_done, given_step}
+use Rattle.vd_noninter_protocols.specs.Example.{slot}
+use Rattle.vd_integrity_runs.specs.IntegrityBackendsExample.{alice, bob, carol, carol_departs}
+use Rattle.vd_integrity_runs.specs.Endorsed.{Given, all_done, given_step}
 use Rattle.vd_integrity_runs.specs.Runs.{RunsBlock}
 
 -- her input is endorsed, and output to alice and to bob

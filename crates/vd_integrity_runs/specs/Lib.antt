@@ -1,3 +1,13 @@
 pub mod Runs
 pub mod Trusted
 pub mod Example
+pub mod Departing
+pub mod Copies
+pub mod Digests
+pub mod Commitments
+pub mod Shares
+pub mod IntegrityBackendsExample
+pub mod Endorsed
+pub mod IntegrityEndorsedLaws
+pub mod Alone
+pub mod Passing

@@ -7,14 +7,14 @@ use Rattle.vd_execution.specs.Gadgets.{Gadget}
 use Rattle.vd_execution.specs.Joint.{Hosts, Part}
 use Rattle.vd_execution.specs.World.{Tape}
 use Rattle.vd_duet.specs.Calls.{Places}
-use Rattle.vd_choreography.specs.Block.{Block, End, Let, NewVar, NewArray, Store, Put, Output, If, For, each}
-use Rattle.vd_choreography.specs.Joint.{choice}
-use Rattle.vd_choreography.specs.Suite.{picked, holders_among}
-use Rattle.vd_choreography.specs.Emission.{Emitting, Emission, parts_at, delivered, and_on, right_made, with_parts, in_turn, stmt_emission, store_made, put_made, output_made, if_made, for_made, loop_registers, after_loop_registers}
+use Rattle.vd_split.specs.Block.{Block, End, Let, NewVar, NewArray, Store, Put, Output, If, For, each}
+use Rattle.vd_split.specs.Joint.{choice}
+use Rattle.vd_split.specs.Suite.{picked, holders_among}
+use Rattle.vd_split.specs.Emission.{Emitting, Emission, parts_at, delivered, and_on, right_made, with_parts, in_turn, stmt_emission, store_made, put_made, output_made, if_made, for_made, loop_registers, after_loop_registers}
 use Rattle.vd_backend_laws.specs.Machine.{given_turn}
 use Rattle.vd_backend_laws.specs.Parts.{Parts, suite_calls}
-use Rattle.vd_integrity_backends.specs.Departing.{AreRight, RunsGadgets}
-use Rattle.vd_integrity_endorsed.specs.Endorsed.{is_given}
+use Rattle.vd_integrity_runs.specs.Departing.{AreRight, RunsGadgets}
+use Rattle.vd_integrity_runs.specs.Endorsed.{is_given}
 
 -- the hosts that keep to their programs, and that take part in a branch, go this way: the other one where the guard is 0
 abbrev pub GoThisWay : (ℕ → Bool) → Bool → List Part → Hosts → Type 0

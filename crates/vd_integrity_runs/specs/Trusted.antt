@@ -12,16 +12,16 @@ use Rattle.vd_space.specs.Reading.{problem_of}
 use Rattle.vd_semantics.specs.ProgramMeaning.{word_at}
 use Rattle.vd_execution.specs.Joint.{Hosts, fresh}
 use Rattle.vd_execution.specs.World.{Tape}
-use Rattle.vd_choreography.specs.Block.{block_of}
-use Rattle.vd_choreography.specs.Emission.{block_emission, emitting_at_start, parts_at}
+use Rattle.vd_split.specs.Block.{block_of}
+use Rattle.vd_split.specs.Emission.{block_emission, emitting_at_start, parts_at}
 use Rattle.vd_core.specs.Numbers.{NumbersFit}
 use Rattle.vd_backend_laws.specs.Parts.{Parts, suite_calls}
-use Rattle.vd_integrity_laws.specs.Trust.{against, becomes_trusted, in_trust, trusts_host}
-use Rattle.vd_space_optimum.specs.Cheapest.{IsAssignment}
-use Rattle.vd_noninter_registers.specs.Told.{IsDealt}
-use Rattle.vd_integrity_backends.specs.Copies.{IsInClear}
-use Rattle.vd_integrity_backends.specs.Departing.{AreRight}
-use Rattle.vd_integrity_endorsed.specs.Endorsed.{outputs_given, run_given}
+use Rattle.vd_noninter.specs.Trust.{against, becomes_trusted, in_trust, trusts_host}
+use Rattle.vd_space.specs.Cheapest.{IsAssignment}
+use Rattle.vd_noninter_protocols.specs.Told.{IsDealt}
+use Rattle.vd_integrity_runs.specs.Copies.{IsInClear}
+use Rattle.vd_integrity_runs.specs.Departing.{AreRight}
+use Rattle.vd_integrity_runs.specs.Endorsed.{outputs_given, run_given}
 use Rattle.vd_integrity_runs.specs.Runs.{RunsBlock, RunsInto}
 
 -- the hosts for whose integrity these principals cannot act

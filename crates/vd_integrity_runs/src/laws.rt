@@ -1,6 +1,6 @@
 //! Laws of whole runs in which hosts depart from their programs. The functions here do nothing: the contract of each is a law.
 
-ghost use Rattle.vd_integrity_laws.specs.Trust.{OfEachProgram};
+ghost use Rattle.vd_noninter.specs.Trust.{OfEachProgram};
 ghost use Rattle.vd_base.specs.declared.form.Form.{Form};
 ghost use Rattle.vd_integrity_runs.specs.Example.{PrintsWhatSheSent};
 ghost use Rattle.vd_integrity_runs.specs.Trusted.{FrontsAreExplained, RunsAreExplained};

@@ -9,8 +9,8 @@ ghost use Rattle.vd_rewrite.specs.Stops.{Stops};
 use crate::nesting::nest_within;
 use crate::walk::Walk;
 use std::alloc::{AllocError, Global};
+use vd_base::Items;
 use vd_base::limits::NESTING;
-use vd_base_lists::Items;
 use vd_core::{Program, Slot, Stmt};
 use vd_rewrite::{Made, Stop, fit, with_parts};
 

@@ -9,8 +9,7 @@ ghost use Rattle.vd_space.specs.WellFormed.{AreProtocols};
 
 use crate::lengthening::lengthen;
 use std::alloc::{AllocError, Global};
-use vd_base::Proto;
-use vd_base_lists::Items;
+use vd_base::{Items, Proto};
 use vd_constraints::Labels;
 use vd_core::Program;
 use vd_protocol::protocols;

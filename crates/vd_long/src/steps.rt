@@ -9,8 +9,7 @@ ghost use Rattle.vd_long.specs.Steps.{placed_in, step_in, steps_in, turns_in, ma
 ghost use Rattle.vd_rewrite.specs.Stops.{Stops};
 
 use std::alloc::{AllocError, Global};
-use vd_base::{Kind, Op, SlotId};
-use vd_base_lists::Items;
+use vd_base::{Items, Kind, Op, SlotId};
 use vd_core::{Right, Slot, Stmt};
 use vd_rewrite::{Made, Stop, fresh_slot};
 

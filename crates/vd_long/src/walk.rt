@@ -10,8 +10,7 @@ ghost use Rattle.vd_rewrite.specs.Stops.{Stops, with_body};
 
 use crate::division::{add_long, parts_of};
 use std::alloc::Global;
-use vd_base::SlotId;
-use vd_base_lists::Items;
+use vd_base::{Items, SlotId};
 use vd_core::{Right, Slot, Stmt};
 use vd_rewrite::{
     Made, Stop, is_marked, keep_array, keep_let, keep_output, keep_put, keep_store, keep_variable,

@@ -6,7 +6,7 @@ use mathlib.Core.Path.{fun_ext}
 use Rattle.vd_execution.specs.Step.{Source, Inputs, OwnWords, Triples, BitTriples, Pairs, one_further}
 use Rattle.vd_machine.specs.declared.lists.Taken.{Taken}
 use Rattle.vd_machine.specs.Machines.{cursors_of, list_of}
-use Rattle.vd_deal_items.specs.Validity.{shared_with}
+use Rattle.vd_tape.specs.Validity.{shared_with}
 
 place_there : {X : Type 0} (xs : List (List X)) (k i : ℕ) → i < length (unwrap_or (slice_get xs k) []) → k < length xs
 place_there [] k i h = absurd (omega (arith, h))

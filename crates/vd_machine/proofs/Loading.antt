@@ -4,7 +4,7 @@ use Rattle.std.specs.Prelude.{All}
 use Rattle.std.proofs.lemmas.List.{length-replicate}
 use Rattle.vd_execution.specs.Code.{Code, Finished, Then, Send, Recv, Choose, Repeat, followed_by}
 use Rattle.vd_execution.specs.Step.{State, Source}
-use Rattle.vd_deal_items.specs.Validity.{IsDeal}
+use Rattle.vd_tape.specs.Validity.{IsDeal}
 use Rattle.vd_execution.specs.declared.instructions.Instr.{Instr}
 use Rattle.vd_execution.specs.Text.{IsCodeOf}
 use Rattle.vd_machine.specs.declared.lists.Lists.{Lists}

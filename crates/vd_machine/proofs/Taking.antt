@@ -7,8 +7,8 @@ use Rattle.vd_execution.specs.declared.instructions.Action.{Action}
 use Rattle.vd_execution.specs.declared.instructions.Action.TheVariants as action
 use Rattle.vd_execution.specs.Registers.{put, nth, written}
 use Rattle.vd_execution.specs.Step.{need_of_action, advanced}
-use Rattle.vd_deal_items.specs.declared.items.Triple.{Triple}
-use Rattle.vd_deal_items.specs.declared.items.PairItem.{PairItem}
+use Rattle.vd_tape.specs.declared.deal_items.items.Triple.{Triple}
+use Rattle.vd_tape.specs.declared.deal_items.items.PairItem.{PairItem}
 use Rattle.vd_machine.specs.declared.lists.Lists.{Lists}
 use Rattle.vd_machine.specs.declared.lists.Taken.{Taken}
 use Rattle.vd_machine.specs.Machines.{list_of, word_item, triple_item, pair_item, item_or_none, or_empty, cursors_of, IsMet, words_for, SamePeers}

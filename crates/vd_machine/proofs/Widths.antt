@@ -10,7 +10,7 @@ use Rattle.vd_execution.specs.declared.instructions.Instr.TheVariants as instr
 use Rattle.vd_execution.specs.Code.{Code, Finished, Then, Send, Recv, Choose, Repeat}
 use Rattle.vd_execution.specs.Text.{text, IsCodeOf}
 use Rattle.vd_execution.specs.Ranges.{ActionFits, CodeFits}
-use Rattle.vd_execution_confluence.proofs.Front.{written_back}
+use Rattle.vd_execution.proofs.Front.{written_back}
 use Rattle.vd_machine.specs.Widths.{InstrFits}
 
 action_more : (n m : ℕ) (a : Action) → n ≤ m → ActionFits n a → ActionFits m a

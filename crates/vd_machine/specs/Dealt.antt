@@ -1,6 +1,6 @@
 -- How many items hosts were dealt.
 use Rattle.std.specs.Prelude.{ℕ, List, Option, Some, None, length, slice_get}
-use Rattle.vd_deal_items.specs.declared.deal.Deal.{Deal}
+use Rattle.vd_tape.specs.declared.deal_items.deal.Deal.{Deal}
 use Rattle.vd_execution.specs.Step.{Source, Inputs, OwnWords, Triples, BitTriples, Pairs}
 use Rattle.vd_machine.specs.Machines.{list_of}
 

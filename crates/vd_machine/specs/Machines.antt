@@ -1,9 +1,9 @@
 -- The registers of a host and its lists, as a machine keeps them.
 use Rattle.std.specs.Prelude.{◌≡◌, ℕ, ◌+◌, ◌<◌, List, [], ◌∷◌, Option, Some, None, length, slice_get, slice_index, nat_eq, if◌then◌else◌}
-use Rattle.vd_deal_items.specs.Validity.{shared_with}
+use Rattle.vd_tape.specs.Validity.{shared_with}
 use Rattle.vd_execution.specs.Step.{Source, Inputs, OwnWords, Triples, BitTriples, Pairs, Cursors, Need, Nothing, Item, Packet, Unequal, Ended}
-use Rattle.vd_deal_items.specs.declared.items.Triple.{Triple}
-use Rattle.vd_deal_items.specs.declared.items.PairItem.{PairItem}
+use Rattle.vd_tape.specs.declared.deal_items.items.Triple.{Triple}
+use Rattle.vd_tape.specs.declared.deal_items.items.PairItem.{PairItem}
 use Rattle.vd_machine.specs.declared.lists.Lists.{Lists}
 use Rattle.vd_machine.specs.declared.lists.Taken.{Taken}
 

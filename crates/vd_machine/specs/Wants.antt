@@ -5,7 +5,7 @@ use Rattle.vd_base.specs.HostSets.{host}
 use Rattle.vd_execution.specs.Step.{need, Source, Inputs, OwnWords, Triples, BitTriples, Pairs, Cursors, Need, Nothing, Item, Packet, Unequal, Ended}
 use Rattle.vd_machine.specs.Kept.{Kept, state_of}
 use Rattle.vd_machine.specs.declared.lists.Lists.{Lists}
-use Rattle.vd_deal_items.specs.declared.deal.DealKind.TheVariants as kind
+use Rattle.vd_tape.specs.declared.deal_items.deal.DealKind.TheVariants as kind
 use Rattle.vd_machine.specs.Machines.{list_of, cursors_of}
 use Rattle.vd_machine.specs.declared.want.Want.{Want}
 use Rattle.vd_machine.specs.declared.want.Want.TheVariants as want

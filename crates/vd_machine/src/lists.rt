@@ -3,9 +3,8 @@
 ghost use Rattle.std.specs.Prelude.{◌≡◌};
 ghost use Rattle.vd_machine.specs.Machines.{list_of};
 
-use vd_base::{HostId, Words};
-use vd_base_lists::Items;
-use vd_deal_items::{Deal, PairItem, Triple};
+use vd_base::{HostId, Items, Words};
+use vd_tape::{Deal, PairItem, Triple};
 
 /// A host's inputs, and what it was dealt.
 #[derive(Drop)]

@@ -6,7 +6,7 @@ ghost use Rattle.vd_execution.specs.Text.{IsCodeOf};
 ghost use Rattle.vd_machine.specs.Wants.{wanted, IsFromHost};
 ghost use Rattle.vd_machine.specs.Dids.{deed_of_did, deed_of_outgoing, seen, IsToHost, OutgoingFits};
 ghost use Rattle.vd_execution.specs.Ranges.{IsInRange};
-ghost use Rattle.vd_deal_items.specs.Validity.{IsDeal};
+ghost use Rattle.vd_tape.specs.Validity.{IsDeal};
 ghost use Rattle.vd_execution.specs.Step.{next, need, advanced, deed};
 ghost use Rattle.vd_machine.specs.Machines.{held, cursors_of, IsMet, words_for, SamePeers};
 ghost use Rattle.vd_machine.specs.Quietly.{IsQuiet, Quietly};
@@ -24,11 +24,10 @@ use crate::want::{Want, want_at};
 use crate::width::width;
 use std::alloc::{AllocError, Global};
 use std::marker::Model;
-use vd_base::Words;
 use vd_base::limits::OPEN_BLOCKS;
-use vd_base_lists::Items;
-use vd_deal_items::Deal;
+use vd_base::{Items, Words};
 use vd_execution::Instr;
+use vd_tape::Deal;
 
 /// What a host still has to do, its registers, and what it takes items from.
 #[derive(Drop)]

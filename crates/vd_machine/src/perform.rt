@@ -10,10 +10,9 @@ ghost use Rattle.vd_machine.specs.Machines.{held, list_of, cursors_of, IsMet, wo
 use crate::digest::digest;
 use crate::lists::{Lists, Taken, pairs_with, triples_with};
 use crate::registers::{clear, write, write_from};
-use vd_base::{HostId, Op, combine};
-use vd_base_lists::Items;
-use vd_deal_items::{PairItem, Triple};
+use vd_base::{HostId, Items, Op, combine};
 use vd_execution::{Action, Binary};
+use vd_tape::{PairItem, Triple};
 
 /// What an operation on two words gives.
 pub(crate) fn apply(operation: Binary, x: u32, y: u32) -> u32

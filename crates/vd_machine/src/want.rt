@@ -9,10 +9,9 @@ ghost use Rattle.vd_machine.specs.Wants.{want_of, IsFromHost};
 
 use crate::lists::{Lists, Taken, pairs_with, triples_with};
 use crate::ops::{Op, Plain};
-use vd_base::HostId;
-use vd_base_lists::Items;
-use vd_deal_items::DealKind;
+use vd_base::{HostId, Items};
 use vd_execution::Action;
+use vd_tape::DealKind;
 
 /// What the next instruction needs.
 #[derive(Clone, Copy, PartialEq, Eq)]

@@ -11,8 +11,7 @@ ghost use Rattle.vd_mux.specs.Hidden.{some_reads, hidden_from, hidden_marks, tur
 
 use crate::turning::turn;
 use std::alloc::{AllocError, Global};
-use vd_base::HostId;
-use vd_base_lists::Items;
+use vd_base::{HostId, Items};
 use vd_constraints::Labels;
 use vd_core::{NormalForm, Program};
 use vd_formula::{Formula, Label};

@@ -10,7 +10,7 @@ ghost use Rattle.vd_mux.specs.Walks.{made_of_all};
 use crate::booleans::Truths;
 use crate::walk::Walk;
 use std::alloc::{AllocError, Global};
-use vd_base_lists::Items;
+use vd_base::Items;
 use vd_core::{Program, Slot, Stmt};
 use vd_rewrite::{Made, Stop, fit, with_parts};
 

@@ -6,8 +6,7 @@ ghost use Rattle.vd_rewrite.specs.Stops.{Stops, with_body};
 ghost use Rattle.vd_mux.specs.Walks.{as_rewriting, as_rewritings, made_of, made_of_all, hides_if, is_flat_if, stored_in, branch_made};
 
 use std::alloc::{AllocError, Global};
-use vd_base::{HostId, Kind, Op, SlotId};
-use vd_base_lists::Items;
+use vd_base::{HostId, Items, Kind, Op, SlotId};
 use vd_core::{Right, Slot, Stmt};
 use vd_rewrite::{
     Guard, Made, Stop, is_marked, keep_array, keep_let, keep_output, keep_put, keep_variable,

@@ -16,9 +16,11 @@ use Rattle.vd_constraints.specs.Satisfies.{no_label, Satisfies}
 use Rattle.vd_constraints.specs.Systems.{IsLabelOver}
 use Rattle.vd_constraints.specs.Scoped.{is_below}
 use Rattle.vd_constraints.proofs.Front.{well_made_scoped}
-use Rattle.vd_noninter_laws.specs.Reading.{reads_slot}
-use Rattle.vd_noninter_laws.specs.Dependence.{Reach, IsDependence, AreReached, AreReadable, AreEnough}
-use Rattle.vd_noninter_laws.proofs.Front.{acts_for, for_acts, same_principals, same_slots, reached_are_readable, reached_are_enough}
+use Rattle.vd_noninter.specs.Reading.{reads_slot}
+use Rattle.vd_noninter.specs.NoninterLawsDependence.{Reach, IsDependence, AreReached, AreReadable, AreEnough}
+use Rattle.vd_noninter.proofs.Formulas.{acts_for, for_acts}
+use Rattle.vd_noninter.proofs.Same.{same_principals, same_slots}
+use Rattle.vd_noninter.proofs.Theorem.{reached_are_readable, reached_are_enough}
 use Rattle.vd_noninter.specs.declared.edge.Edge.{Edge}
 use Rattle.vd_noninter.specs.declared.reader.Reader.{Reader}
 use Rattle.vd_noninter.specs.Edges.{reads_in, edges_of}

@@ -11,8 +11,8 @@ use Rattle.vd_core.specs.declared.normal.Stmt.{Stmt, roll-Stmt, map-Stmt, ind-St
 use Rattle.vd_core.specs.declared.normal.Stmt.TheOpen.{Stmt-F}
 use Rattle.vd_core.specs.declared.normal.Stmt.TheFolds.{fold-roll-Stmt}
 use Rattle.vd_constraints.specs.Scoped.{is_below, right_below, stmt_below, slots_below, block_below}
-use Rattle.vd_noninter_laws.specs.Flowing.{only_with}
-use Rattle.vd_noninter_laws.specs.Dependence.{Reach, right_closes, Closing, all_close, stmt_closes, closes}
+use Rattle.vd_noninter.specs.Flowing.{only_with}
+use Rattle.vd_noninter.specs.NoninterLawsDependence.{Reach, right_closes, Closing, all_close, stmt_closes, closes}
 use Rattle.vd_noninter.specs.declared.edge.Node.{Node}
 use Rattle.vd_noninter.specs.declared.edge.Node.TheVariants.{Told, Slot, Inputs}
 use Rattle.vd_noninter.specs.declared.edge.Edge.{Edge}

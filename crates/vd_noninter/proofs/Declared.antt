@@ -9,9 +9,9 @@ use Rattle.vd_core.specs.declared.normal.Stmt.{Stmt, roll-Stmt, map-Stmt, ind-St
 use Rattle.vd_core.specs.declared.normal.Stmt.TheOpen.{Stmt-F}
 use Rattle.vd_core.specs.declared.normal.Stmt.TheFolds.{fold-roll-Stmt}
 use Rattle.vd_core.specs.Facts.{blocks_meet, meets, all_meet, host_is_declared}
-use Rattle.vd_noninter_laws.specs.Flowing.{only_with}
-use Rattle.vd_noninter_laws.specs.Dependence.{Reach, right_closes, Closing, all_close, stmt_closes, closes}
-use Rattle.vd_noninter_laws.proofs.Front.{and_of}
+use Rattle.vd_noninter.specs.Flowing.{only_with}
+use Rattle.vd_noninter.specs.NoninterLawsDependence.{Reach, right_closes, Closing, all_close, stmt_closes, closes}
+use Rattle.vd_noninter.proofs.Lawful.{and_of}
 use Rattle.vd_noninter.proofs.Closing.{only_true}
 
 abbrev pub eight_hosts : Reach

@@ -5,9 +5,10 @@ use Rattle.std.proofs.lemmas.List.{length-append}
 use Rattle.std.proofs.lemmas.List.Folds.{list_all-append}
 use Rattle.vd_base.specs.declared.ids.SlotId.{SlotId}
 use Rattle.vd_base.specs.declared.ids.HostId.{HostId}
-use Rattle.vd_noninter_laws.specs.Flowing.{only_with}
-use Rattle.vd_noninter_laws.specs.Dependence.{Reach, IsWithin}
-use Rattle.vd_noninter_laws.proofs.Front.{only, then_only, and_of}
+use Rattle.vd_noninter.specs.Flowing.{only_with}
+use Rattle.vd_noninter.specs.NoninterLawsDependence.{Reach, IsWithin}
+use Rattle.vd_noninter.proofs.Statements.{only}
+use Rattle.vd_noninter.proofs.Lawful.{then_only, and_of}
 use Rattle.vd_noninter.specs.declared.edge.Node.{Node}
 use Rattle.vd_noninter.specs.declared.edge.Node.TheVariants.{Told, Slot, Inputs}
 use Rattle.vd_noninter.specs.declared.edge.Edge.{Edge}

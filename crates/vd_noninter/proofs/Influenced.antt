@@ -3,8 +3,8 @@ use Rattle.std.proofs.Common.{◌≡◌, ℕ, ◌≤◌, Bool, ◌&&◌, List, l
 use Rattle.vd_base.specs.declared.ids.HostId.{HostId}
 use Rattle.vd_core.specs.declared.normal.NormalForm.{NormalForm}
 use Rattle.vd_core.specs.Facts.{IsWellMade}
-use Rattle.vd_noninter_laws.specs.Dependence.{Reach}
-use Rattle.vd_integrity_laws.specs.Influence.{IsInfluence, AreInfluences}
+use Rattle.vd_noninter.specs.NoninterLawsDependence.{Reach}
+use Rattle.vd_noninter.specs.IntegrityLawsInfluence.{IsInfluence, AreInfluences}
 use Rattle.vd_noninter.specs.declared.edge.Edge.{Edge}
 use Rattle.vd_noninter.specs.InfluenceEdges.{influence_edges_of}
 use Rattle.vd_noninter.specs.Reached.{IsReachOf}

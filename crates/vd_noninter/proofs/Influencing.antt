@@ -10,10 +10,10 @@ use Rattle.vd_core.specs.declared.normal.Stmt.{Stmt, roll-Stmt, map-Stmt, ind-St
 use Rattle.vd_core.specs.declared.normal.Stmt.TheOpen.{Stmt-F}
 use Rattle.vd_core.specs.declared.normal.Stmt.TheFolds.{fold-roll-Stmt}
 use Rattle.vd_core.specs.Facts.{blocks_meet, meets, all_meet, host_is_declared}
-use Rattle.vd_noninter_laws.specs.Flowing.{only_with}
-use Rattle.vd_noninter_laws.specs.Dependence.{Reach, Closing, all_close}
-use Rattle.vd_noninter_laws.proofs.Front.{and_of}
-use Rattle.vd_integrity_laws.specs.Influence.{right_influences, stmt_influences, influences}
+use Rattle.vd_noninter.specs.Flowing.{only_with}
+use Rattle.vd_noninter.specs.NoninterLawsDependence.{Reach, Closing, all_close}
+use Rattle.vd_noninter.proofs.Lawful.{and_of}
+use Rattle.vd_noninter.specs.IntegrityLawsInfluence.{right_influences, stmt_influences, influences}
 use Rattle.vd_noninter.specs.declared.edge.Edge.{Edge}
 use Rattle.vd_noninter.specs.declared.around.Around.{Around}
 use Rattle.vd_noninter.specs.Edges.{Adding, in_order, no_guards, with_made, with_told, within}

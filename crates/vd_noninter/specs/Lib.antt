@@ -2,3 +2,10 @@ pub mod Edges
 pub mod Reached
 pub mod Hosts
 pub mod InfluenceEdges
+pub mod Watching
+pub mod Flowing
+pub mod Agreement
+pub mod Reading
+pub mod NoninterLawsDependence
+pub mod Trust
+pub mod IntegrityLawsInfluence

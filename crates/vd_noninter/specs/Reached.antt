@@ -1,8 +1,8 @@
 -- What is reached from a host's outputs, along edges.
 use Rattle.std.specs.Prelude.{◌≡◌, ℕ, ◌≤◌, Bool, true, false, List, [], ◌∷◌, ◌++◌, length, slice_index_or}
 use Rattle.std.specs.List.{list_all}
-use Rattle.vd_noninter_laws.specs.Flowing.{only_with}
-use Rattle.vd_noninter_laws.specs.Dependence.{Reach, IsWithin}
+use Rattle.vd_noninter.specs.Flowing.{only_with}
+use Rattle.vd_noninter.specs.NoninterLawsDependence.{Reach, IsWithin}
 use Rattle.vd_noninter.specs.declared.edge.Node.{Node}
 use Rattle.vd_noninter.specs.declared.edge.Node.TheVariants.{Told, Slot, Inputs}
 use Rattle.vd_noninter.specs.declared.edge.Edge.{Edge}

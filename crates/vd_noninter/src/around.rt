@@ -3,8 +3,7 @@
 ghost use Rattle.std.specs.Prelude.{◌≡◌, IfOk};
 
 use std::alloc::{AllocError, Global};
-use vd_base::SlotId;
-use vd_base_lists::Items;
+use vd_base::{Items, SlotId};
 
 /// The guards around a statement, from the outermost one inwards, and whether the host may read them all.
 #[derive(Drop)]

@@ -3,7 +3,7 @@
 ghost use Rattle.std.specs.Prelude.{IfOk};
 ghost use Rattle.vd_constraints.specs.Rules.{system_of};
 ghost use Rattle.vd_constraints.specs.Satisfies.{Satisfies};
-ghost use Rattle.vd_noninter_laws.specs.Dependence.{AreReached, AreReadable, AreEnough};
+ghost use Rattle.vd_noninter.specs.NoninterLawsDependence.{AreReached, AreReadable, AreEnough};
 ghost use Rattle.vd_noninter.specs.Hosts.{members};
 
 use crate::reached::reach_along;

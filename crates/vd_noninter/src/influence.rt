@@ -2,7 +2,7 @@
 
 ghost use Rattle.std.specs.Prelude.{IfOk};
 ghost use Rattle.vd_noninter.specs.Hosts.{members};
-ghost use Rattle.vd_integrity_laws.specs.Influence.{AreInfluences};
+ghost use Rattle.vd_noninter.specs.IntegrityLawsInfluence.{AreInfluences};
 
 use crate::influence_walk::influence_edges;
 use crate::reached::reach_along;

@@ -8,8 +8,7 @@ use crate::around::Around;
 use crate::edge::Edge;
 use crate::walk::{add_input, add_made, add_told};
 use std::alloc::{AllocError, Global};
-use vd_base::{HostId, SlotId};
-use vd_base_lists::Items;
+use vd_base::{HostId, Items, SlotId};
 use vd_core::{NormalForm, Right, Stmt};
 
 /// What depends on what in a program, from all that is output to the host; through endorsements too where they are passed.

@@ -5,8 +5,8 @@ ghost use Rattle.vd_base.specs.declared.ids.HostId.{HostId};
 ghost use Rattle.vd_constraints.specs.declared.labels.Labels.{Labels};
 ghost use Rattle.vd_core.specs.declared.normal.NormalForm.{NormalForm};
 ghost use Rattle.vd_core.specs.Facts.{IsWellMade};
-ghost use Rattle.vd_noninter_laws.specs.Dependence.{IsDependence, Reach};
-ghost use Rattle.vd_integrity_laws.specs.Influence.{IsInfluence};
+ghost use Rattle.vd_noninter.specs.NoninterLawsDependence.{IsDependence, Reach};
+ghost use Rattle.vd_noninter.specs.IntegrityLawsInfluence.{IsInfluence};
 
 /// A host's outputs reach some slots and some hosts' inputs, in every well-made program, whatever its labels are: there is a least
 /// choice of them that is closed.

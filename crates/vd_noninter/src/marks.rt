@@ -3,7 +3,7 @@
 ghost use Rattle.std.specs.Prelude.{◌≡◌, ◌||◌, [], ℕ, OnOk, nat_eq};
 
 use std::alloc::{AllocError, Global};
-use vd_base_lists::Items;
+use vd_base::Items;
 
 /// A set of small numbers, by whether each of them is in it, as far as the greatest.
 #[derive(Drop)]

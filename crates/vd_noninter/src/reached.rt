@@ -7,8 +7,7 @@ ghost use Rattle.vd_noninter.specs.Reached.{IsReachOf, reach_of};
 use crate::edge::{Edge, Node};
 use crate::marks::Marks;
 use std::alloc::{AllocError, Global};
-use vd_base::HostSet;
-use vd_base_lists::Items;
+use vd_base::{HostSet, Items};
 
 /// Slots that are reached, and hosts whose inputs are.
 #[derive(Drop)]

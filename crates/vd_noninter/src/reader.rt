@@ -7,8 +7,7 @@ ghost use Rattle.vd_constraints.specs.Systems.{IsLabelOver};
 ghost use Rattle.vd_formula.specs.TruthTable.{acts};
 
 use std::alloc::{AllocError, Global};
-use vd_base::{HostId, SlotId};
-use vd_base_lists::Items;
+use vd_base::{HostId, Items, SlotId};
 use vd_core::NormalForm;
 use vd_formula::{Formula, Label};
 

@@ -7,8 +7,7 @@ use crate::around::Around;
 use crate::edge::{Edge, Node};
 use crate::reader::Reader;
 use std::alloc::{AllocError, Global};
-use vd_base::{HostId, SlotId};
-use vd_base_lists::Items;
+use vd_base::{HostId, Items, SlotId};
 use vd_core::{NormalForm, Right, Stmt};
 
 /// What depends on what in a program, for a host that is told what it may read.

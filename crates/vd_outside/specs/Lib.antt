@@ -6,3 +6,5 @@ pub mod Net
 pub mod Recorded
 pub mod Sink
 pub mod Spawner
+pub mod Marks
+pub mod Places

@@ -1,7 +1,7 @@
 -- The document's grammar and the parser's rules have the same texts.
 use Rattle.std.proofs.Common.{ℕ, List}
-use Rattle.vd_source_ll1.specs.Grammar.{Ebnf, Tok, Eps, Seq, Alt, Derives, d-eps, d-seq, d-left, d-right, Begins, b-none, b-first, b-next, b-left, b-right}
-use Rattle.vd_source_ll1.proofs.Front.{derives_to, begins_to, under, b-under}
+use Rattle.vd_source_lexer.specs.Grammar.{Ebnf, Tok, Eps, Seq, Alt, Derives, d-eps, d-seq, d-left, d-right, Begins, b-none, b-first, b-next, b-left, b-right}
+use Rattle.vd_source_lexer.proofs.Front.{derives_to, begins_to, under, b-under}
 use Rattle.vd_parser.specs.Language.{Symbol, SOURCE, HOST, LABEL, FORM, CONJ, FATOM, FUN, PARAM, KIND, BLOCK, STMT, EXPR, BOR, BXOR, BAND, SHIFT, SUM, PROD, UNARY, ATOM, rule}
 use Rattle.vd_parser.specs.Document.{document, SameLanguage}
 

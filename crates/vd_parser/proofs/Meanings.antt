@@ -1,6 +1,6 @@
 -- What the trees of the grammar stand for, a rule at a time.
 use Rattle.std.proofs.Common.{◌≡◌, ℕ, true, false, List, [], ◌∷◌, ◌++◌, Option, Some, None, refl, sym, ap, ◌∙◌}
-use Rattle.vd_source_ll1.specs.Trees.{Tree, Both, First, Second, Empty}
+use Rattle.vd_source_lexer.specs.Trees.{Tree, Both, First, Second, Empty}
 use Rattle.vd_base.specs.declared.ids.Span.{Span}
 use Rattle.vd_base.specs.declared.operations.Kind.{Kind}
 use Rattle.vd_core.specs.declared.source.Ident.{Ident}

@@ -3,8 +3,8 @@ use Rattle.std.proofs.Common.{◌≡◌, ℕ, ◌<◌, Bool, true, ◌⊎◌, in
 use Rattle.std.specs.Prelude.{All, IfOk}
 use Rattle.std.specs.List.{AllPass}
 use Rattle.std.proofs.lemmas.List.Elements.{All-nil, All-cons, All-head, All-tail}
-use Rattle.vd_source_ll1.specs.Grammar.{Ebnf, Sym, Seq, Star}
-use Rattle.vd_source_ll1.specs.Trees.{Tree, Both, Makes, m-tok, m-sym, m-eps, m-seq, m-left, m-right, m-stop, m-more}
+use Rattle.vd_source_lexer.specs.Grammar.{Ebnf, Sym, Seq, Star}
+use Rattle.vd_source_lexer.specs.Trees.{Tree, Both, Makes, m-tok, m-sym, m-eps, m-seq, m-left, m-right, m-stop, m-more}
 use Rattle.vd_base.specs.Lexical.{is_name}
 use Rattle.vd_core.specs.declared.source.Ident.{Ident}
 use Rattle.vd_core.specs.declared.source.Host.{Host}

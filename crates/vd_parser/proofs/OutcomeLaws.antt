@@ -1,9 +1,9 @@
 -- Some bytes have one outcome.
 use Rattle.std.proofs.Common.{◌≡◌, ℕ, zero, suc, ◌≤◌, List, [], ◌∷◌, ◌++◌, inl, inr, length, take, drop, get_or, Some, Result, Ok, Err, refl, sym, ap, ◌∙◌, subst, arith, ◌-◌, append_assoc}
 use Rattle.std.proofs.lemmas.Bool.{cases_lt}
-use Rattle.vd_source_ll1.specs.Grammar.{Spells, Starts}
-use Rattle.vd_source_ll1.specs.Trees.{Tree, Both}
-use Rattle.vd_source_ll1.proofs.Front.{fronts, only_tree, texts_trees}
+use Rattle.vd_source_lexer.specs.Grammar.{Spells, Starts}
+use Rattle.vd_source_lexer.specs.Trees.{Tree, Both}
+use Rattle.vd_source_lexer.proofs.Front.{fronts, only_tree, texts_trees}
 use Rattle.vd_core.specs.declared.source.Source.{Source}
 use Rattle.vd_source_lexer.specs.Kinds.{code_of}
 use Rattle.vd_source_lexer.specs.Tokens.{kinds}

@@ -3,11 +3,11 @@ use Rattle.std.proofs.Common.{◌≡◌, ℕ, ◌+◌, ◌-◌, ◌≤◌, true,
 use Rattle.std.proofs.lemmas.List.{take_all}
 use Rattle.std.proofs.Math.Seq.{take-length}
 use Rattle.std.proofs.lemmas.Bool.{cases_lt, or_right, both_ways}
-use Rattle.vd_source_ll1.specs.Grammar.{Ebnf, Tok, Sym, Seq, Derives, d-seq, d-tok, Begins, b-none, b-tok, b-first, b-next, Spells, Starts, NothingLeft}
-use Rattle.vd_source_ll1.specs.Machine.{has, run}
-use Rattle.vd_source_ll1.specs.Trees.{Tree, Both, Makes, m-seq}
-use Rattle.vd_source_ll1.specs.Laws.{FirstUnexpected, Taken}
-use Rattle.vd_source_ll1.proofs.Front.{absent, starts_absent, exact, texts_trees}
+use Rattle.vd_source_lexer.specs.Grammar.{Ebnf, Tok, Sym, Seq, Derives, d-seq, d-tok, Begins, b-none, b-tok, b-first, b-next, Spells, Starts, NothingLeft}
+use Rattle.vd_source_lexer.specs.Machine.{has, run}
+use Rattle.vd_source_lexer.specs.Trees.{Tree, Both, Makes, m-seq}
+use Rattle.vd_source_lexer.specs.Laws.{FirstUnexpected, Taken}
+use Rattle.vd_source_lexer.proofs.Front.{absent, starts_absent, exact, texts_trees}
 use Rattle.vd_core.specs.declared.source.Source.{Source}
 use Rattle.vd_source_lexer.specs.Kinds.{code_of}
 use Rattle.vd_source_lexer.specs.Tokens.{EndsOnce, kinds, Lexes}

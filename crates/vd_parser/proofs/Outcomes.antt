@@ -2,11 +2,11 @@
 use Rattle.std.proofs.Common.{◌≡◌, ℕ, zero, suc, ◌+◌, ◌-◌, ◌<◌, ◌≤◌, true, List, [], ◌∷◌, ◌++◌, ◌⊎◌, inl, inr, length, take, drop, get_or, Some, None, refl, sym, ap, ◌∙◌, subst, true≢false, arith, length-append, append_assoc, ◌^◌, Result, Ok, Err, length-drop}
 use Rattle.std.proofs.lemmas.List.{length-map}
 use Rattle.std.proofs.lemmas.Bool.{cases_lt}
-use Rattle.vd_source_ll1.specs.Grammar.{Ebnf, Sym, Starts, b-none, b-next}
-use Rattle.vd_source_ll1.specs.Trees.{Tree, Leaf, Both, Makes, m-tok, m-sym, m-eps, m-seq, m-left, m-right, m-stop, m-more}
-use Rattle.vd_source_ll1.specs.Laws.{FirstUnexpected}
-use Rattle.vd_source_ll1.specs.Reading.{Stops, Gives}
-use Rattle.vd_source_ll1.proofs.Front.{exact, makes_derives}
+use Rattle.vd_source_lexer.specs.Grammar.{Ebnf, Sym, Starts, b-none, b-next}
+use Rattle.vd_source_lexer.specs.Trees.{Tree, Leaf, Both, Makes, m-tok, m-sym, m-eps, m-seq, m-left, m-right, m-stop, m-more}
+use Rattle.vd_source_lexer.specs.Laws.{FirstUnexpected}
+use Rattle.vd_source_lexer.specs.Reading.{Stops, Gives}
+use Rattle.vd_source_lexer.proofs.Front.{exact, makes_derives}
 use Rattle.vd_core.specs.declared.source.Source.{Source}
 use Rattle.vd_source_lexer.specs.Kinds.{code_of}
 use Rattle.vd_source_lexer.specs.Tokens.{EndsOnce, kinds, Lexes, lexes_end, lexes_blank, lexes_token, IsWithin}

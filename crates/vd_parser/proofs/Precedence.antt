@@ -1,10 +1,10 @@
 -- Operators as the parser tests them and as the grammar has them.
 use Rattle.std.proofs.Common.{◌≡◌, ℕ, Bool, true, false, ◌||◌, if◌then◌else◌, Option, inl, inr, true≢false, List, [], ◌∷◌, ◌++◌, Some, None, nat_eq, refl, sym, ap, ◌∙◌, subst, eqb-true}
 use Rattle.std.proofs.lemmas.Bool.{or_left, or_from, cases_Bool, or_cases}
-use Rattle.vd_source_ll1.specs.Grammar.{Ebnf, Tok, Sym, Eps, Seq, Alt, Star, one_of}
-use Rattle.vd_source_ll1.specs.Machine.{has, first}
-use Rattle.vd_source_ll1.specs.Trees.{Tree, Leaf, Both, First, Second, Empty}
-use Rattle.vd_source_ll1.specs.Reading.{head, Within, Gives, Collects}
+use Rattle.vd_source_lexer.specs.Grammar.{Ebnf, Tok, Sym, Eps, Seq, Alt, Star, one_of}
+use Rattle.vd_source_lexer.specs.Machine.{has, first}
+use Rattle.vd_source_lexer.specs.Trees.{Tree, Leaf, Both, First, Second, Empty}
+use Rattle.vd_source_lexer.specs.Reading.{head, Within, Gives, Collects}
 use Rattle.vd_core.specs.declared.source.Infix.{Infix}
 use Rattle.vd_core.specs.declared.source.Infix.TheVariants as op
 use Rattle.vd_core.specs.declared.source.Prefix.{Prefix}
@@ -29,7 +29,7 @@ use Rattle.vd_parser.specs.Syntax.{token_of, span_of, infix_of, direction_of, pr
 use Rattle.vd_parser.specs.Parsing.{language, kind_at, Refused}
 use Rattle.vd_parser.specs.Levels.{begins_statement, is_kind, comparison_at, infix_at, prefix_at, direction_at, ops_of, symbol_of, operand_symbol, level_of, operand_of, segments_of}
 use Rattle.vd_parser.proofs.Ready.{F, E, language_ll1}
-use Rattle.vd_source_ll1.proofs.Front as readings
+use Rattle.vd_source_lexer.proofs.Front as readings
 use Rattle.vd_parser.proofs.Meanings.{statements_more, statements_none, shifts_more, shifts_none}
 use Rattle.vd_parser.proofs.Steps.{head_is, start, rule_start, next, last, refused_last, collects_known, stop_known, end_known}
 

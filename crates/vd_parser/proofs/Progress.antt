@@ -1,10 +1,10 @@
 -- What is read is at least a token, but for parts that may be empty.
 use Rattle.std.proofs.Common.{◌≡◌, ◌<◌, ◌≤◌, Bool, true, false, ◌||◌, List, length, inl, inr, refl, sym, ◌∙◌, true≢false, arith}
 use Rattle.std.proofs.lemmas.Bool.{and_from, cases_Bool}
-use Rattle.vd_source_ll1.specs.Grammar.{Ebnf, Sym}
-use Rattle.vd_source_ll1.specs.Machine.{nullable}
-use Rattle.vd_source_ll1.specs.Trees.{Tree, Makes, m-tok, m-sym, m-eps, m-seq, m-left, m-right, m-stop, m-more}
-use Rattle.vd_source_ll1.specs.Reading.{Gives}
+use Rattle.vd_source_lexer.specs.Grammar.{Ebnf, Sym}
+use Rattle.vd_source_lexer.specs.Machine.{nullable}
+use Rattle.vd_source_lexer.specs.Trees.{Tree, Makes, m-tok, m-sym, m-eps, m-seq, m-left, m-right, m-stop, m-more}
+use Rattle.vd_source_lexer.specs.Reading.{Gives}
 use Rattle.vd_source_lexer.specs.Kinds.{code_of}
 use Rattle.vd_source_lexer.specs.declared.token.Token.{Token}
 use Rattle.vd_parser.specs.Language.{Symbol, rule}

@@ -1,7 +1,7 @@
 -- The language's grammar is LL(1), by the computed test.
 use Rattle.std.proofs.Common.{◌≡◌, ℕ, true, false, List, refl}
-use Rattle.vd_source_ll1.specs.Machine.{nullable, first, follow_last, is_ll1, firsts, follow_lasts, entered, IsLL1}
-use Rattle.vd_source_ll1.specs.Trees.{one_empty}
+use Rattle.vd_source_lexer.specs.Machine.{nullable, first, follow_last, is_ll1, firsts, follow_lasts, entered, IsLL1}
+use Rattle.vd_source_lexer.specs.Trees.{one_empty}
 use Rattle.vd_parser.specs.Language.{Symbol, rule, SOURCE, HOST, LABEL, FORM, CONJ, FATOM, FUN, PARAM, KIND, BLOCK, STMT, EXPR, BOR, BXOR, BAND, SHIFT, SUM, PROD, UNARY, ATOM}
 
 abbrev pub F : Symbol → List ℕ

@@ -1,8 +1,8 @@
 -- The operators before an operand, turned round.
 use Rattle.std.proofs.Common.{List, ap}
 use mathlib.Core.List.{reverse}
-use Rattle.vd_source_ll1.specs.Grammar.{Star}
-use Rattle.vd_source_ll1.specs.Reading.{Gives}
+use Rattle.vd_source_lexer.specs.Grammar.{Star}
+use Rattle.vd_source_lexer.specs.Reading.{Gives}
 use Rattle.vd_core.specs.declared.source.Sign.{Sign}
 use Rattle.vd_source_lexer.specs.declared.token.Token.{Token}
 use Rattle.vd_parser.specs.Language.{prefix_ops}

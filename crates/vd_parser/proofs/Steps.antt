@@ -1,11 +1,11 @@
 -- How the parser goes through the language's parts.
 use Rattle.std.proofs.Common.{◌≡◌, ◌≢◌, ℕ, ◌<◌, Bool, true, false, List, [], ◌∷◌, ◌++◌, length, nat_eq, refl, sym, ap, ◌∙◌, subst, eqb-true, eq-eqb, arith, Result, Ok, Err}
 use Rattle.std.proofs.lemmas.Bool.{or_left, or_from}
-use Rattle.vd_source_ll1.specs.Grammar.{Ebnf, Sym, Eps, Seq, Alt, Star}
-use Rattle.vd_source_ll1.specs.Machine.{has, nullable, first}
-use Rattle.vd_source_ll1.specs.Trees.{Tree, Leaf, Both, First, Second, Empty}
-use Rattle.vd_source_ll1.specs.Reading.{head, Read, Within, Gives, Collects}
-use Rattle.vd_source_ll1.proofs.Front as readings
+use Rattle.vd_source_lexer.specs.Grammar.{Ebnf, Sym, Eps, Seq, Alt, Star}
+use Rattle.vd_source_lexer.specs.Machine.{has, nullable, first}
+use Rattle.vd_source_lexer.specs.Trees.{Tree, Leaf, Both, First, Second, Empty}
+use Rattle.vd_source_lexer.specs.Reading.{head, Read, Within, Gives, Collects}
+use Rattle.vd_source_lexer.proofs.Front as readings
 use Rattle.vd_source_lexer.specs.Kinds.{code_of}
 use Rattle.vd_source_lexer.specs.declared.token.Token.{Token}
 use Rattle.vd_source_lexer.specs.declared.token.TokenKind.{TokenKind}

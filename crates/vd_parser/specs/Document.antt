@@ -1,7 +1,7 @@
 -- The grammar of the language as a document of it has it. It differs from the rules that the parser goes by where several
 -- statements or atoms begin with a name.
 use Rattle.std.specs.Prelude.{◌↔◌, ℕ, List}
-use Rattle.vd_source_ll1.specs.Grammar.{Ebnf, Sym, Derives, Begins, ◌▸◌, ◌∣◌}
+use Rattle.vd_source_lexer.specs.Grammar.{Ebnf, Sym, Derives, Begins, ◌▸◌, ◌∣◌}
 use Rattle.vd_source_lexer.specs.declared.token.TokenKind.TheVariants as kind
 use Rattle.vd_parser.specs.Language.{Symbol, STMT, EXPR, ATOM, tok, rule, let_rule, var_rule, array_rule, index_rule, output_rule, if_rule, for_rule, arguments_rule, two_rule, three_rule, host_rule, relabel_rule, brackets_rule}
 

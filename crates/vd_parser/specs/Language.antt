@@ -1,6 +1,6 @@
 -- The grammar of the language as the parser reads it: left factored, so that one token decides each choice.
 use Rattle.std.specs.Prelude.{List, [], ◌∷◌, map}
-use Rattle.vd_source_ll1.specs.Grammar.{Ebnf, Tok, Sym, Star, ◌▸◌, ◌∣◌, optional, one_of, separated}
+use Rattle.vd_source_lexer.specs.Grammar.{Ebnf, Tok, Sym, Star, ◌▸◌, ◌∣◌, optional, one_of, separated}
 use Rattle.vd_source_lexer.specs.Kinds.{code_of}
 use Rattle.vd_source_lexer.specs.declared.token.TokenKind.{TokenKind}
 use Rattle.vd_source_lexer.specs.declared.token.TokenKind.TheVariants as kind

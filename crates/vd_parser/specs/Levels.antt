@@ -1,7 +1,7 @@
 -- The levels of precedence: their operators and the symbols of the grammar.
 use Rattle.std.specs.Prelude.{ℕ, Bool, ◌||◌, List, Option, Some, None, nat_eq, if◌then◌else◌}
-use Rattle.vd_source_ll1.specs.Grammar.{Ebnf}
-use Rattle.vd_source_ll1.specs.Trees.{Tree}
+use Rattle.vd_source_lexer.specs.Grammar.{Ebnf}
+use Rattle.vd_source_lexer.specs.Trees.{Tree}
 use Rattle.vd_core.specs.declared.source.Prefix.{Prefix}
 use Rattle.vd_core.specs.declared.source.Prefix.TheVariants as prefix
 use Rattle.vd_core.specs.declared.source.Infix.{Infix}

@@ -1,8 +1,8 @@
 -- What parsing some bytes gives: the one tree of the bytes, or the one refusal.
 use Rattle.std.specs.Prelude.{◌≡◌, ℕ, ◌<◌, ◌≤◌, List, [], ◌∷◌, ◌++◌, length, Result, Ok, Err}
 use Rattle.vd_base.specs.Limits.{most_source_bytes}
-use Rattle.vd_source_ll1.specs.Grammar.{Ebnf, Sym, Starts, ◌▸◌}
-use Rattle.vd_source_ll1.specs.Trees.{Tree, Both, Makes}
+use Rattle.vd_source_lexer.specs.Grammar.{Ebnf, Sym, Starts, ◌▸◌}
+use Rattle.vd_source_lexer.specs.Trees.{Tree, Both, Makes}
 use Rattle.vd_core.specs.declared.source.Source.{Source}
 use Rattle.vd_source_lexer.specs.Kinds.{code_of}
 use Rattle.vd_source_lexer.specs.Tokens.{Lexes, FirstBad, kinds}

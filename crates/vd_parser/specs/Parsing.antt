@@ -1,9 +1,9 @@
 -- What each function of the parser promises.
 use Rattle.std.specs.Prelude.{◌≡◌, ℕ, List, [], ◌∷◌, Result, Ok, Err}
-use Rattle.vd_source_ll1.specs.Grammar.{Ebnf}
-use Rattle.vd_source_ll1.specs.Machine.{firsts, IsLL1}
-use Rattle.vd_source_ll1.specs.Trees.{Tree}
-use Rattle.vd_source_ll1.specs.Reading.{Grammar, Stops, Gives}
+use Rattle.vd_source_lexer.specs.Grammar.{Ebnf}
+use Rattle.vd_source_lexer.specs.Machine.{firsts, IsLL1}
+use Rattle.vd_source_lexer.specs.Trees.{Tree}
+use Rattle.vd_source_lexer.specs.Reading.{Grammar, Stops, Gives}
 use Rattle.vd_source_lexer.specs.Kinds.{code_of}
 use Rattle.vd_source_lexer.specs.declared.token.Token.{Token}
 use Rattle.vd_source_lexer.specs.declared.token.TokenKind.{TokenKind}

@@ -1,7 +1,7 @@
 -- The syntax tree that a tree of the grammar stands for. text is the bytes of the source, in which names stand.
 use Rattle.std.specs.Prelude.{ℕ, ◌-◌, Bool, if◌then◌else◌, true, false, List, [], ◌∷◌, ◌++◌, drop, take, Option, Some, None}
 use mathlib.Core.List.{reverse}
-use Rattle.vd_source_ll1.specs.Trees.{Tree, Leaf, Both, First, Second, Empty}
+use Rattle.vd_source_lexer.specs.Trees.{Tree, Leaf, Both, First, Second, Empty}
 use Rattle.vd_base.specs.declared.ids.Span.{Span}
 use Rattle.vd_base.specs.declared.operations.Kind.{Kind}
 use Rattle.vd_base.specs.declared.operations.Kind.TheVariants as word_kind

@@ -1,8 +1,8 @@
 -- What is promised of a function that reads a whole text.
 use Rattle.std.specs.Prelude.{◌≡◌, ◌≢◌, ℕ, List, [], ◌∷◌, Result, Ok, Err}
-use Rattle.vd_source_ll1.specs.Grammar.{Ebnf, ◌▸◌}
-use Rattle.vd_source_ll1.specs.Trees.{Tree}
-use Rattle.vd_source_ll1.specs.Reading.{Gives}
+use Rattle.vd_source_lexer.specs.Grammar.{Ebnf, ◌▸◌}
+use Rattle.vd_source_lexer.specs.Trees.{Tree}
+use Rattle.vd_source_lexer.specs.Reading.{Gives}
 use Rattle.vd_source_lexer.specs.Kinds.{code_of}
 use Rattle.vd_source_lexer.specs.declared.token.Token.{Token}
 use Rattle.vd_source_lexer.specs.declared.token.TokenKind.TheVariants as kind

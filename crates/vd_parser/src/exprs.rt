@@ -1,5 +1,5 @@
 ghost use Rattle.std.specs.Prelude.{◌≡◌, length, IfOk};
-ghost use Rattle.vd_source_ll1.specs.Grammar.{Sym};
+ghost use Rattle.vd_source_lexer.specs.Grammar.{Sym};
 ghost use Rattle.vd_parser.specs.Language.{EXPR, SHIFT, UNARY, ATOM, commas, word_atom_rule, other_atom_rule, named_rule, arguments_rule, index_rule, two_rule, three_rule, relabel_rule, host_rule};
 ghost use Rattle.vd_parser.specs.Syntax.{bracketed, is_bracketed, chained, expr_of, shift_of, unary_of, atom_of, word_atom_of, other_atom_of, named_of, arguments_of, exprs_of, index_of, two_of, three_of, relabelled_of, host_name_of};
 ghost use Rattle.vd_parser.specs.Levels.{symbol_of, operand_symbol, level_of, operand_of};
@@ -9,7 +9,7 @@ use crate::cursor::{Cursor, Refusal};
 use crate::operators::{Level, comparison, direction, infix};
 use crate::parser::Parser;
 use std::alloc::AllocError;
-use vd_base_lists::{Boxed, Items};
+use vd_base::{Boxed, Items};
 use vd_core::{Expr, Ident, Segment, WrittenForm};
 use vd_source_lexer::TokenKind;
 

@@ -1,5 +1,5 @@
 ghost use Rattle.std.specs.Prelude.{◌≡◌, ◌<◌, length, IfOk};
-ghost use Rattle.vd_source_ll1.specs.Grammar.{Sym, optional};
+ghost use Rattle.vd_source_lexer.specs.Grammar.{Sym, optional};
 ghost use Rattle.vd_parser.specs.Language.{LABEL, FORM, CONJ, FATOM};
 ghost use Rattle.vd_parser.specs.Syntax.{either_of, both_of, form_of, conj_of, fatom_of, label_of, label_option_of};
 ghost use Rattle.vd_parser.specs.Parsing.{Parses};
@@ -7,7 +7,7 @@ ghost use Rattle.vd_parser.specs.Parsing.{Parses};
 use crate::cursor::{Cursor, Refusal};
 use crate::parser::Parser;
 use std::alloc::AllocError;
-use vd_base_lists::Items;
+use vd_base::Items;
 use vd_core::{WrittenForm, WrittenLabel};
 use vd_source_lexer::TokenKind;
 

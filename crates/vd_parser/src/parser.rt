@@ -1,5 +1,5 @@
 ghost use Rattle.std.specs.Prelude.{◌≡◌, ◌<◌, length, IfOk};
-ghost use Rattle.vd_source_ll1.specs.Grammar.{Sym};
+ghost use Rattle.vd_source_lexer.specs.Grammar.{Sym};
 ghost use Rattle.vd_source_lexer.specs.declared.token.TokenKind.TheVariants as kind;
 ghost use Rattle.vd_parser.specs.Language.{tok, commas, typed_rule, KIND};
 ghost use Rattle.vd_parser.specs.Syntax.{word_at, ident_of, idents_of, kind_of, typed_of};
@@ -7,8 +7,7 @@ ghost use Rattle.vd_parser.specs.Parsing.{Parses};
 
 use crate::cursor::{Cursor, Refusal};
 use std::alloc::Global;
-use vd_base::{Kind, Span};
-use vd_base_lists::Items;
+use vd_base::{Items, Kind, Span};
 use vd_core::Ident;
 use vd_source_lexer::TokenKind;
 

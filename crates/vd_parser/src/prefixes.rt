@@ -1,5 +1,5 @@
 ghost use Rattle.std.specs.Prelude.{◌≡◌, IfOk};
-ghost use Rattle.vd_source_ll1.specs.Grammar.{Star};
+ghost use Rattle.vd_source_lexer.specs.Grammar.{Star};
 ghost use Rattle.vd_parser.specs.Language.{prefix_ops};
 ghost use Rattle.vd_parser.specs.Syntax.{prefixes_of, signs_of, signed};
 ghost use Rattle.vd_parser.specs.Parsing.{Parses};
@@ -8,7 +8,7 @@ use crate::cursor::{Cursor, Refusal};
 use crate::operators::prefix;
 use crate::parser::Parser;
 use std::alloc::AllocError;
-use vd_base_lists::{Boxed, Items};
+use vd_base::{Boxed, Items};
 use vd_core::{Expr, Sign};
 
 impl<'a> Parser<'a> {

@@ -1,13 +1,12 @@
 ghost use Rattle.std.specs.Prelude.{◌≡◌};
-ghost use Rattle.vd_source_ll1.specs.Grammar.{Sym, Star};
+ghost use Rattle.vd_source_lexer.specs.Grammar.{Sym, Star};
 ghost use Rattle.vd_parser.specs.Language.{SOURCE, HOST, FUN, PARAM, commas, principals_rule, hosts_rule, parameters_rule, body_rule};
 ghost use Rattle.vd_parser.specs.Syntax.{source_of, principals_of, host_of, host_list_of, function_of, functions_of, whole_body_of, parameter_of, parameter_list_of, parameters_of};
 ghost use Rattle.vd_parser.specs.Parsing.{Parses};
 
 use crate::cursor::{Cursor, Refusal};
 use crate::parser::Parser;
-use vd_base::Span;
-use vd_base_lists::Items;
+use vd_base::{Items, Span};
 use vd_core::{Expr, Function, Host, Ident, Parameter, Source, Statement};
 use vd_source_lexer::TokenKind;
 

@@ -1,5 +1,5 @@
 ghost use Rattle.std.specs.Prelude.{◌≡◌};
-ghost use Rattle.vd_source_ll1.specs.Grammar.{Sym, Star, optional};
+ghost use Rattle.vd_source_lexer.specs.Grammar.{Sym, Star, optional};
 ghost use Rattle.vd_parser.specs.Language.{BLOCK, STMT, let_rule, var_rule, array_rule, assign_rule, length_rule, output_rule, if_rule, else_rule, for_rule, index_rule};
 ghost use Rattle.vd_parser.specs.Syntax.{let_of, var_of, array_of, length_of, assign_of, assigned, index_option_of, output_of, if_of, else_of, for_of, block_of, statements_of, statement_of};
 ghost use Rattle.vd_parser.specs.Levels.{begins_statement};
@@ -8,7 +8,7 @@ ghost use Rattle.vd_parser.specs.Parsing.{Parses};
 use crate::cursor::{Cursor, Refusal};
 use crate::operators::is;
 use crate::parser::Parser;
-use vd_base_lists::Items;
+use vd_base::Items;
 use vd_core::{Expr, Ident, Statement};
 use vd_source_lexer::TokenKind;
 

@@ -2,7 +2,7 @@ ghost use Rattle.std.specs.Prelude.{◌≡◌, ◌⊎◌, ◌+◌, ◌<◌, ◌�
 ghost use Rattle.vd_core.specs.Named.{HasNames};
 ghost use Rattle.vd_core.specs.declared.source.Source.{Source};
 ghost use Rattle.vd_parser.specs.declared.fault.ParseFault.{ParseFault};
-ghost use Rattle.vd_source_ll1.specs.Grammar.{Sym};
+ghost use Rattle.vd_source_lexer.specs.Grammar.{Sym};
 ghost use Rattle.vd_source_lexer.specs.Tokens.{EndsOnce, kinds};
 ghost use Rattle.vd_parser.specs.Language.{SOURCE};
 ghost use Rattle.vd_parser.specs.Syntax.{source_of};

@@ -20,14 +20,14 @@ use Rattle.vd_execution.specs.Deals.{IsValidDeal}
 use Rattle.vd_execution.specs.Joint.{IsTidy, code_of}
 use Rattle.vd_execution.specs.Text.{text, flat, pick}
 use Rattle.vd_execution.specs.World.{Tape, followed_by_zeros}
-use Rattle.vd_execution_confluence.proofs.Front.{picks, read_back, unbegun}
+use Rattle.vd_execution.proofs.Front.{picks, read_back, unbegun}
 use Rattle.vd_backend_laws.specs.Suite.{IsOver, AreGiven}
 use Rattle.vd_backend_laws.specs.Given.{zero_deal}
 use Rattle.vd_backend_laws.specs.Whole.{inputs_of, CanRun}
 use Rattle.vd_backend_laws.proofs.Front.{listed_protocols_are_over, zero_deals_are_valid, code_tells_the_same, code_runs_well}
-use Rattle.vd_choreography_validity.specs.Assignments.{IsValidFor}
-use Rattle.vd_choreography_validity.proofs.Front.{can_run}
-use Rattle.vd_code_sizes.proofs.Front.{code_is_in_range}
+use Rattle.vd_projection.specs.Assignments.{IsValidFor}
+use Rattle.vd_projection.proofs.Chosen.{can_run}
+use Rattle.vd_projection.proofs.Programs.{code_is_in_range}
 use Rattle.vd_projection.specs.Programs.{IsRunnable, CanRunAt, AreOver, joint_of, host_codes, CodesCanBeLoaded, CodesRunAsTold, CodesRunWell}
 
 or_default : {X : Type 0} (P : X → Type 0) (xs : List X) (d : X) → All P xs → P d → (k : ℕ) → P (slice_index_or xs k d)

@@ -1,1 +1,9 @@
 pub mod Programs
+pub mod Ranges
+pub mod Fits
+pub mod Sizes
+pub mod Statements
+pub mod Assignments
+pub mod Stored
+pub mod Early
+pub mod ProjectionReorderedFilesStored

@@ -9,14 +9,14 @@ use Rattle.vd_core.specs.Facts.{IsWellMade}
 use Rattle.vd_core.specs.Numbers.{NumbersFit}
 use Rattle.vd_constraints.specs.declared.labels.Labels.{Labels}
 use Rattle.vd_space.specs.Reading.{problem_of}
-use Rattle.vd_space_optimum.specs.Cheapest.{IsAssignment}
+use Rattle.vd_space.specs.Cheapest.{IsAssignment}
 use Rattle.vd_execution.specs.declared.instructions.Instr.{Instr}
 use Rattle.vd_execution.specs.Deals.{IsValidDeal}
 use Rattle.vd_execution.specs.Joint.{Joint, code_of}
 use Rattle.vd_execution.specs.Ranges.{IsInRange}
 use Rattle.vd_execution.specs.Text.{IsCodeOf, text}
 use Rattle.vd_execution.specs.World.{Supply, Tape, followed_by_zeros}
-use Rattle.vd_execution_confluence.specs.Claims.{RunsWell}
+use Rattle.vd_execution.specs.Claims.{RunsWell}
 use Rattle.vd_backend_laws.specs.Suite.{AreGiven, IsOver}
 use Rattle.vd_backend_laws.specs.Whole.{code_at, inputs_of, RunsAsToldBy}
 

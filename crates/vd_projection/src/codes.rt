@@ -5,8 +5,7 @@ ghost use Rattle.vd_projection.specs.Programs.{CanRunAt, host_codes, joint_of};
 
 use std::alloc::{AllocError, Global};
 use vd_backends::Built;
-use vd_base::{HostId, Proto};
-use vd_base_lists::Items;
+use vd_base::{HostId, Items, Proto};
 use vd_core::Program;
 use vd_execution::{Instr, Line};
 use vd_split::{host_code, joint_code};

@@ -3,8 +3,7 @@ ghost use Rattle.vd_base.specs.Limits.{most_hosts};
 ghost use Rattle.vd_base.specs.Holders.{HasHosts};
 ghost use Rattle.vd_protocol.specs.Authority.{AreOverSameNames, IsOver, authority_of, committed_of, copies_of, names_of, shared_of};
 
-use vd_base::{HostId, HostSet, Proto};
-use vd_base_lists::Items;
+use vd_base::{HostId, HostSet, Items, Proto};
 use vd_formula::{Formula, Label};
 
 /// The label of each host, in order.

@@ -6,8 +6,7 @@ ghost use Rattle.vd_base.specs.declared.protocols.Proto.TheVariants as proto;
 ghost use Rattle.vd_protocol.specs.Pairings.{protocol_of, takes};
 
 use std::alloc::{AllocError, Global};
-use vd_base::{HostId, HostSet, Proto};
-use vd_base_lists::Items;
+use vd_base::{HostId, HostSet, Items, Proto};
 
 /// The protocols over so many hosts, in order.
 pub fn protocols(alloc: Global, hosts: u8) -> Result<Items<Proto>, AllocError>

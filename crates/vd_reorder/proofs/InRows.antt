@@ -4,7 +4,7 @@ use Rattle.std.proofs.lemmas.Bool.{cases_lt, eq-eqb, ne_eqb, eqb-true, eqb-false
 use Rattle.std.specs.List.{list_any}
 use Rattle.vd_execution.specs.declared.instructions.Reg.{Reg}
 use Rattle.vd_execution.specs.Text.{register}
-use Rattle.vd_reorder_laws.specs.Testing.{row, has, meet}
+use Rattle.vd_reorder.specs.ReorderLawsTesting.{row, has, meet}
 
 is_or : (a b : Bool) → (if a then true else b) ≡ (a || b)
 is_or true b = refl

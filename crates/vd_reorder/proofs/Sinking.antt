@@ -5,7 +5,7 @@ use Rattle.std.proofs.lemmas.List.{drop_more, take-append-drop, take_all, take_m
 use Rattle.std.proofs.lemmas.List.Edits.{swap_is}
 use Rattle.vd_execution.specs.declared.instructions.Instr.{Instr}
 use Rattle.vd_execution.specs.declared.instructions.Instr.TheVariants as instr
-use Rattle.vd_reorder_laws.specs.Hastening.{Piece}
+use Rattle.vd_reorder.specs.Hastening.{Piece}
 use Rattle.vd_reorder.specs.Passing.{has_room, room_behind, depth_behind, if_open, span, risen, stretch_passes, sunk_text, sunk_first, hastened_text}
 
 -- ---- one instruction rises before others

@@ -2,9 +2,9 @@
 use Rattle.std.proofs.Common.{◌≡◌, ℕ, nat_eq, Bool, true, false, ◌&&◌, ◌||◌, not, if◌then◌else◌, List, refl, sym, ap, ◌∙◌}
 use Rattle.vd_execution.specs.declared.instructions.Reg.{Reg}
 use Rattle.vd_execution.specs.declared.instructions.Action.{Action}
-use Rattle.vd_reorder_laws.specs.Hastening.{Piece, Acts, Sends, Awaits}
-use Rattle.vd_reorder_laws.specs.Testing.{has, meet, is_simple, may}
-use Rattle.vd_reorder_laws.specs.Careful.{careful}
+use Rattle.vd_reorder.specs.Hastening.{Piece, Acts, Sends, Awaits}
+use Rattle.vd_reorder.specs.ReorderLawsTesting.{has, meet, is_simple, may}
+use Rattle.vd_reorder.specs.Careful.{careful}
 use Rattle.vd_reorder.specs.Packets.{stays_by}
 use Rattle.vd_reorder.proofs.InRows.{eq_turned}
 

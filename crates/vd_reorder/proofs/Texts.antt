@@ -10,11 +10,11 @@ use Rattle.vd_execution.specs.declared.instructions.Action.TheVariants as action
 use Rattle.vd_execution.specs.declared.instructions.Reg.{Reg}
 use Rattle.vd_execution.specs.Code.{Code, Finished, Then, Send, Recv, Choose, Repeat}
 use Rattle.vd_execution.specs.Text.{register, text, IsUnbegun, Open, AfterEnd, AfterElse, Reading, at_else, at_if, at_for, with_instr, read_before, read, IsCodeOf}
-use Rattle.vd_execution_confluence.proofs.Front.{read_back, written_back}
-use Rattle.vd_reorder_laws.specs.Hastening.{Piece, Acts, Sends, Awaits, Stretch, One, Branch, Loop, stretch_before}
-use Rattle.vd_reorder_laws.specs.Passing.{passes_turns, passes_all, passes_stretch, sunk, hastened}
-use Rattle.vd_reorder_laws.specs.Careful.{careful}
-use Rattle.vd_reorder_laws.proofs.Front.{careful_passes}
+use Rattle.vd_execution.proofs.Front.{read_back, written_back}
+use Rattle.vd_reorder.specs.Hastening.{Piece, Acts, Sends, Awaits, Stretch, One, Branch, Loop, stretch_before}
+use Rattle.vd_reorder.specs.ReorderLawsPassing.{passes_turns, passes_all, passes_stretch, sunk, hastened}
+use Rattle.vd_reorder.specs.Careful.{careful}
+use Rattle.vd_reorder.proofs.Careful.{careful_passes}
 use Rattle.vd_reorder.specs.Packets.{opened_in, stays_by, stays_in}
 use Rattle.vd_reorder.specs.Passing.{IsHastenedText, second_passes, has_room, room_behind, span, turns_pass, all_pass, stretch_passes, sunk_text, sunk_first, hastened_by, hastened_text, window}
 

@@ -4,8 +4,8 @@ use Rattle.vd_execution.specs.declared.instructions.Reg.{Reg}
 use Rattle.vd_execution.specs.declared.instructions.Action.TheVariants as action
 use Rattle.vd_execution.specs.declared.instructions.Instr.{Instr}
 use Rattle.vd_execution.specs.declared.instructions.Instr.TheVariants as instr
-use Rattle.vd_reorder_laws.specs.Hastening.{Acts}
-use Rattle.vd_reorder_laws.specs.Careful.{careful}
+use Rattle.vd_reorder.specs.Hastening.{Acts}
+use Rattle.vd_reorder.specs.Careful.{careful}
 use Rattle.vd_reorder.specs.Packets.{stays_by}
 use Rattle.vd_reorder.specs.Passing.{passes, second_passes, turns_pass}
 

@@ -1,7 +1,7 @@
 -- Registers in rows.
 use Rattle.std.specs.Prelude.{List, ◌++◌}
 use Rattle.vd_execution.specs.declared.instructions.Reg.{Reg}
-use Rattle.vd_reorder_laws.specs.Testing.{row}
+use Rattle.vd_reorder.specs.ReorderLawsTesting.{row}
 use Rattle.vd_reorder.specs.declared.registers.Row.{Row}
 use Rattle.vd_reorder.specs.declared.registers.Rows.{Rows}
 

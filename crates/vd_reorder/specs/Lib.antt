@@ -2,3 +2,14 @@ pub mod InRows
 pub mod Lists
 pub mod Packets
 pub mod Passing
+pub mod Hastening
+pub mod Neighbours
+pub mod ReorderLawsPassing
+pub mod ReorderLawsTesting
+pub mod Careful
+pub mod Hastened
+pub mod Ahead
+pub mod Short
+pub mod Window
+pub mod Turning
+pub mod ChoreographyCommutingNeighbours

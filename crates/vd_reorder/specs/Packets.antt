@@ -11,8 +11,8 @@ use Rattle.vd_execution.specs.declared.instructions.Action.TheVariants as action
 use Rattle.vd_execution.specs.declared.instructions.Instr.{Instr}
 use Rattle.vd_execution.specs.declared.instructions.Instr.TheVariants as instr
 use Rattle.vd_execution.specs.Text.{register}
-use Rattle.vd_reorder_laws.specs.Hastening.{Piece, Acts, Sends, Awaits}
-use Rattle.vd_reorder_laws.specs.Testing.{row, has, meet, reads, writes, is_simple}
+use Rattle.vd_reorder.specs.Hastening.{Piece, Acts, Sends, Awaits}
+use Rattle.vd_reorder.specs.ReorderLawsTesting.{row, has, meet, reads, writes, is_simple}
 
 -- An instruction reads the register or writes to it. Of what stands before the begin or the end of a block nothing is known.
 abbrev pub touches : Reg → Instr → Bool

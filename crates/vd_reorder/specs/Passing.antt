@@ -6,9 +6,9 @@ use Rattle.vd_execution.specs.declared.instructions.Instr.{Instr}
 use Rattle.vd_execution.specs.declared.instructions.Instr.TheVariants as instr
 use Rattle.vd_execution.specs.Code.{Code}
 use Rattle.vd_execution.specs.Text.{IsCodeOf}
-use Rattle.vd_reorder_laws.specs.Hastening.{Piece, Acts, Sends, Awaits}
-use Rattle.vd_reorder_laws.specs.Passing.{hastened}
-use Rattle.vd_reorder_laws.specs.Careful.{careful, IsCarefullyHastened}
+use Rattle.vd_reorder.specs.Hastening.{Piece, Acts, Sends, Awaits}
+use Rattle.vd_reorder.specs.ReorderLawsPassing.{hastened}
+use Rattle.vd_reorder.specs.Careful.{careful, IsCarefullyHastened}
 use Rattle.vd_reorder.specs.Packets.{stays_in}
 
 -- Each instruction is passed by at most so many packets, so that links need room for no more.

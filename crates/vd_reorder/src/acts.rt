@@ -1,7 +1,7 @@
 //! What two actions of one host need of each other.
 
 ghost use Rattle.std.specs.Prelude.{◌≡◌, nat_eq, if◌then◌else◌, true};
-ghost use Rattle.vd_reorder_laws.specs.Testing as testing;
+ghost use Rattle.vd_reorder.specs.ReorderLawsTesting as testing;
 ghost use Rattle.vd_reorder.specs.Lists.{need_in};
 
 use crate::registers::{any_overlap, read_by, written_by};

@@ -2,12 +2,23 @@
 #![tactic(auto)]
 
 mod acts;
+mod choreography_commuting;
 mod packets;
 mod passing;
 mod registers;
+mod reorder_buffers;
+mod reorder_histories;
+mod reorder_laws;
 mod testing;
 
 pub use acts::{both_may, is_simple};
+pub use choreography_commuting::{neighbours_may_turn, turned_code_tells_the_same};
 pub use packets::opened_in;
 pub use passing::{hasten_code, texts_are_passed};
 pub use registers::{Row, Rows, any_among, have_common, read_by, written_by};
+pub use reorder_buffers::room_for_the_window_is_enough;
+pub use reorder_histories::{hastened_histories_are_schedules, hastened_hosts_are_never_later};
+pub use reorder_laws::{
+    careful_passes_keep_the_order, each_code_is_hastened, hastened_hosts_are_on_the_way,
+    hastened_starts_come_to_their_end, neighbours_may_be_exchanged, passes_exchange,
+};

@@ -5,7 +5,7 @@ ghost use Rattle.vd_reorder.specs.Packets as packets;
 
 use crate::registers::{Row, any_holds, holds, is_among, read_by, written_by};
 use std::alloc::{AllocError, Global};
-use vd_base_lists::Items;
+use vd_base::Items;
 use vd_execution::{Action, Binary, Instr, Reg};
 
 /// Whether an instruction reads a register or writes to it. A mark of a block counts as if it did.

@@ -3,7 +3,7 @@
 ghost use Rattle.std.specs.Prelude.{◌≡◌, ◌++◌, ◌+◌, ◌<◌, ◌≤◌, IfOk, length, take, drop};
 ghost use Rattle.vd_execution.specs.Code.{Code};
 ghost use Rattle.vd_execution.specs.Text.{IsCodeOf};
-ghost use Rattle.vd_reorder_laws.specs.Careful.{careful};
+ghost use Rattle.vd_reorder.specs.Careful.{careful};
 ghost use Rattle.vd_reorder.specs.Packets.{stays_by};
 ghost use Rattle.vd_reorder.specs.Passing as passing;
 ghost use Rattle.vd_reorder.specs.Passing.{IsHastenedText, TextsArePassed, hastened_by, hastened_text, risen, sunk_first, window};
@@ -11,7 +11,7 @@ ghost use Rattle.vd_reorder.specs.Passing.{IsHastenedText, TextsArePassed, haste
 use crate::packets::opened_in;
 use crate::testing::may_pass;
 use std::alloc::{AllocError, Global};
-use vd_base_lists::Items;
+use vd_base::Items;
 use vd_execution::{Action, Instr, Reg};
 
 /// How many packets may pass an instruction.

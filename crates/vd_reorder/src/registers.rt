@@ -1,7 +1,7 @@
 //! The registers that actions read and write.
 
 ghost use Rattle.std.specs.Prelude.{◌≡◌, ◌++◌, [], ◌∷◌};
-ghost use Rattle.vd_reorder_laws.specs.Testing.{has, meet, reads, writes};
+ghost use Rattle.vd_reorder.specs.ReorderLawsTesting.{has, meet, reads, writes};
 ghost use Rattle.vd_reorder.specs.InRows.{in_row, in_rows};
 
 use vd_execution::{Action, Reg};

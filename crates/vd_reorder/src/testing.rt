@@ -2,16 +2,15 @@
 
 ghost use Rattle.std.specs.Prelude.{◌≡◌};
 ghost use Rattle.vd_execution.specs.declared.instructions.Instr.TheVariants as instr;
-ghost use Rattle.vd_reorder_laws.specs.Hastening.{Acts, Awaits, Sends};
-ghost use Rattle.vd_reorder_laws.specs.Testing as testing;
-ghost use Rattle.vd_reorder_laws.specs.Careful.{careful};
+ghost use Rattle.vd_reorder.specs.Hastening.{Acts, Awaits, Sends};
+ghost use Rattle.vd_reorder.specs.ReorderLawsTesting as testing;
+ghost use Rattle.vd_reorder.specs.Careful.{careful};
 ghost use Rattle.vd_reorder.specs.Packets.{stays_by};
 ghost use Rattle.vd_reorder.specs.Passing.{passes};
 
 use crate::acts::{both_may, is_simple};
 use crate::registers::{any_among, any_overlap, have_common, read_by, written_by};
-use vd_base::HostId;
-use vd_base_lists::Items;
+use vd_base::{HostId, Items};
 use vd_execution::{Action, Instr, Reg};
 
 /// Whether an action prints.

@@ -12,8 +12,7 @@ use crate::hosts::host_of;
 use crate::token::{Token, TokenKind, next_token};
 use std::alloc::{AllocError, Global};
 use vd_base::limits::INPUT_WORDS;
-use vd_base::{Inputs, Names, Words};
-use vd_base_lists::Items;
+use vd_base::{Inputs, Items, Names, Words};
 
 /// The words that an inputs file gives to each host, in order of declaration. A host without a section has none.
 pub fn read_inputs(alloc: Global, bytes: &[u8], hosts: &Names) -> Result<Inputs, ReadFault>

@@ -6,8 +6,7 @@ ghost use Rattle.vd_report.specs.ReportLines.{host_lines, host_line, state_text,
 use crate::hosts::name_of;
 use crate::lines::push_words_line;
 use std::alloc::{AllocError, Global};
-use vd_base::{Bytes, HostState, Names, Words};
-use vd_base_lists::Items;
+use vd_base::{Bytes, HostState, Items, Names, Words};
 
 /// How a host stands, and the words that it printed.
 #[derive(Drop)]

@@ -13,8 +13,7 @@ use crate::hosts::host_of;
 use crate::token::{Token, TokenKind, next_token};
 use std::alloc::Global;
 use vd_base::limits::{HOSTS, SCHEDULE_ENTRIES};
-use vd_base::{HostId, Names};
-use vd_base_lists::Items;
+use vd_base::{HostId, Items, Names};
 
 /// In which order hosts step.
 #[derive(Drop)]

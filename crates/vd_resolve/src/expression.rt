@@ -20,8 +20,7 @@ use crate::parts::{named, of_element, of_input, of_three, of_two, relabelled};
 use crate::size::Size;
 use crate::symbol::Symbol;
 use crate::table::NameTable;
-use vd_base::{Kind, Span};
-use vd_base_lists::Items;
+use vd_base::{Items, Kind, Span};
 use vd_core::{Expr, Function, Ident, Infix, Segment, Sign};
 
 /// The values in sight.

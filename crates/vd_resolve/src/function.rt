@@ -19,7 +19,7 @@ use crate::statement::expect_kind;
 use crate::symbol::{Callee, Signature, Symbol};
 use crate::table::NameTable;
 use std::alloc::{AllocError, Global};
-use vd_base_lists::Items;
+use vd_base::Items;
 use vd_core::{Function, Ident, Parameter, Statement};
 
 fn declare_parameters<'a>(

@@ -1,8 +1,7 @@
 //! What names stand for.
 
 use crate::size::Size;
-use vd_base::Kind;
-use vd_base_lists::Items;
+use vd_base::{Items, Kind};
 
 /// What the name of a value stands for.
 #[derive(Clone, Copy, PartialEq, Eq)]

@@ -4,8 +4,7 @@ ghost use Rattle.std.specs.Prelude.{◌≡◌, IfOk, map};
 ghost use Rattle.vd_rewrite.specs.Rewriting.{in_block, entry_of, moved, moved_right, fresh};
 
 use std::alloc::{AllocError, Global};
-use vd_base::{Form, Kind, Name, SlotId};
-use vd_base_lists::Items;
+use vd_base::{Form, Items, Kind, Name, SlotId};
 use vd_core::{NormalForm, Right, Slot, Stmt, Written};
 
 /// A copy of a name.

@@ -10,8 +10,7 @@ use std::alloc::{AllocError, Global};
 use std::marker::Model;
 use std::mem;
 use vd_base::limits::STATEMENTS;
-use vd_base::{Kind, SlotId};
-use vd_base_lists::Items;
+use vd_base::{Items, Kind, SlotId};
 use vd_core::{Right, Slot, Stmt};
 
 /// The slots and statements so far, the new numbers of old slots, and the numbers of the next slot and block.

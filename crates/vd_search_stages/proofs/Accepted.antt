@@ -8,8 +8,8 @@ use Rattle.std.proofs.lemmas.Bool.{true≢false, lt-ltb, and_from}
 use Rattle.vd_base.specs.Limits.{most_certificate_shifts}
 use Rattle.vd_search_tree.specs.declared.shift.Shift.{Shift}
 use Rattle.vd_search_tree.specs.Trees.{IsWhole, IsChoice, IsEmpty, Tree}
-use Rattle.vd_search_certificate.specs.declared.certificate.Mark.{Mark}
-use Rattle.vd_search_certificate.specs.Texts.{IsShift}
+use Rattle.vd_search_tree.specs.declared.search_certificate.certificate.Mark.{Mark}
+use Rattle.vd_search_tree.specs.Texts.{IsShift}
 use Rattle.vd_bound.specs.Marks.{IsSound, IsLeastCost, count_of, is_expanded}
 use Rattle.vd_bound.specs.Checking.{checked}
 use Rattle.vd_bound.specs.Shifts.{first_bad}
@@ -20,7 +20,7 @@ use Rattle.vd_search.specs.Answers.{IsLeast}
 use Rattle.vd_space.specs.declared.problem.Problem.{Problem}
 use Rattle.vd_space.specs.Bounds.{high}
 use Rattle.vd_space.specs.Validity.{is_valid, protocols}
-use Rattle.vd_cost_network.specs.Network.{network_high, network_tree}
+use Rattle.vd_space.specs.Network.{network_high, network_tree}
 use Rattle.vd_space.specs.Costs.{cost}
 use Rattle.vd_space.specs.Spaces.{IsProblem, tree_of}
 use Rattle.vd_space.specs.Usual.{usual, firm}

@@ -7,8 +7,8 @@ use Rattle.std.specs.Option.{option_map_or}
 use Rattle.vd_base.specs.Limits.{most_certificate_shifts}
 use Rattle.vd_search_tree.specs.declared.shift.Shift.{Shift}
 use Rattle.vd_search_tree.specs.Trees.{Tree, IsBounded}
-use Rattle.vd_search_certificate.specs.declared.certificate.Mark.{Mark}
-use Rattle.vd_search_certificate.specs.declared.certificate.Certificate.{Certificate}
+use Rattle.vd_search_tree.specs.declared.search_certificate.certificate.Mark.{Mark}
+use Rattle.vd_search_tree.specs.declared.search_certificate.certificate.Certificate.{Certificate}
 use Rattle.vd_bound.specs.declared.checking.CheckFault.{CheckFault}
 use Rattle.vd_bound.specs.declared.checking.CheckFault.TheVariants as check_fault
 use Rattle.vd_bound.specs.declared.checking.CheckFault.TheVariants.{BadShift}
@@ -27,9 +27,9 @@ use Rattle.vd_space.specs.Spaces.{IsProblem, tree_of}
 use Rattle.vd_space.specs.Usual.{usual}
 use Rattle.vd_space.specs.Validity.{protocols}
 use Rattle.vd_space.proofs.Front.{tree_bounded}
-use Rattle.vd_cost_network.specs.Arcs.{arcs}
-use Rattle.vd_cost_network.specs.Network.{network_tree}
-use Rattle.vd_cost_network.proofs.Front.{network_tree_bounded}
+use Rattle.vd_space.specs.Arcs.{arcs}
+use Rattle.vd_space.specs.Network.{network_tree}
+use Rattle.vd_space.proofs.Front.{network_tree_bounded}
 use Rattle.vd_cost_network_prefix.specs.declared.made.NetworkTables.{NetworkTables}
 use Rattle.vd_search_stages.specs.Confirming.{Confirms, tree_by}
 use Rattle.vd_search_stages.specs.Naming.{NamesUse}

@@ -7,9 +7,9 @@ use Rattle.std.proofs.lemmas.Bool.{lt-ltb, and_from}
 use Rattle.vd_base.specs.Limits.{most_certificate_shifts}
 use Rattle.vd_search_tree.specs.declared.shift.Shift.{Shift}
 use Rattle.vd_search_tree.specs.Trees.{IsWhole, IsChoice, IsEmpty}
-use Rattle.vd_search_certificate.specs.declared.certificate.Mark.{Mark}
-use Rattle.vd_search_certificate.specs.declared.certificate.Certificate.{Certificate}
-use Rattle.vd_search_certificate.specs.Texts.{IsShift}
+use Rattle.vd_search_tree.specs.declared.search_certificate.certificate.Mark.{Mark}
+use Rattle.vd_search_tree.specs.declared.search_certificate.certificate.Certificate.{Certificate}
+use Rattle.vd_search_tree.specs.Texts.{IsShift}
 use Rattle.vd_bound.specs.Marks.{IsSound, count_of, is_expanded}
 use Rattle.vd_bound.specs.Checking.{checked}
 use Rattle.vd_bound.specs.Shifts.{first_bad}
@@ -22,12 +22,12 @@ use Rattle.vd_space.specs.Validity.{is_valid, protocols}
 use Rattle.vd_space.specs.Costs.{cost}
 use Rattle.vd_space.specs.Spaces.{IsProblem, tree_of}
 use Rattle.vd_space.proofs.Front.{high_whole, few_in}
-use Rattle.vd_cost_network.specs.Arcs.{arcs}
-use Rattle.vd_cost_network.specs.Network.{network_high, network_tree}
-use Rattle.vd_cost_network.proofs.Front.{network_high_whole, network_tree_bounded}
+use Rattle.vd_space.specs.Arcs.{arcs}
+use Rattle.vd_space.specs.Network.{network_high, network_tree}
+use Rattle.vd_space.proofs.Front.{network_high_whole, network_tree_bounded}
 use Rattle.vd_cost_network_prefix.specs.declared.made.NetworkTables.{NetworkTables}
 use Rattle.vd_cost_network_prefix.specs.Tables.{AreNetworkTables}
-use Rattle.vd_cost_network_shifts.specs.Shifts.{AreArcShifts, IsArcShift}
+use Rattle.vd_cost_network_ascent.specs.Shifts.{AreArcShifts, IsArcShift}
 use Rattle.vd_search_stages.specs.Confirming.{confirmed}
 use Rattle.vd_search_stages.specs.Network.{CanUseArcs, NamesArc}
 use Rattle.vd_search_stages.specs.Selecting.{Selects, refuted}

@@ -6,8 +6,8 @@ use Rattle.vd_space.specs.Costs.{cost}
 use Rattle.vd_space.specs.Spaces.{IsProblem, tree_of}
 use Rattle.vd_space.proofs.Front.{high_whole, tree_bounded}
 use Rattle.vd_space_prefix.specs.declared.tables.Tables.{Tables}
-use Rattle.vd_cost_network.specs.Network.{network_tree}
-use Rattle.vd_cost_network.proofs.Front.{network_high_whole, network_tree_bounded}
+use Rattle.vd_space.specs.Network.{network_tree}
+use Rattle.vd_space.proofs.Front.{network_high_whole, network_tree_bounded}
 use Rattle.vd_cost_network_prefix.specs.declared.made.NetworkTables.{NetworkTables}
 use Rattle.vd_search_stages.specs.Selecting.{CostsAtLeast}
 use Rattle.vd_search_stages.specs.Spending.{IsRootBound}

@@ -4,8 +4,8 @@ use Rattle.vd_base.specs.declared.protocols.Proto.{Proto}
 use Rattle.vd_search.specs.Answers.{nat_or_zero}
 use Rattle.vd_space.specs.declared.problem.Problem.{Problem}
 use Rattle.vd_space.specs.Costs.{cost}
-use Rattle.vd_space_optimum.specs.Cheapest.{IsCheapest}
-use Rattle.vd_space_optimum.proofs.Front.{cheapest_at, places_cheapest}
+use Rattle.vd_space.specs.Cheapest.{IsCheapest}
+use Rattle.vd_space.proofs.Front.{cheapest_at, places_cheapest}
 use Rattle.vd_search_stages.specs.Optimum.{IsOptimal, assigned}
 use Rattle.vd_search_stages.specs.declared.optimum.Assignment.{Assignment}
 

@@ -8,8 +8,8 @@ use Rattle.std.specs.List.{All, list_all}
 use Rattle.vd_search_tree.specs.declared.shift.Shift.{Shift}
 use Rattle.vd_space.specs.declared.problem.Problem.{Problem}
 use Rattle.vd_space.specs.Spaces.{IsProblem}
-use Rattle.vd_cost_network.specs.Network.{by_arcs, units}
-use Rattle.vd_cost_network.proofs.Front.{network_high_whole, units_below}
+use Rattle.vd_space.specs.Network.{by_arcs, units}
+use Rattle.vd_space.proofs.Front.{network_high_whole, units_below}
 use Rattle.vd_search_stages.specs.Network.{IsBeyond}
 
 pub all_among : (choices : List ℕ) (count many : ℕ) → count ≡ many → list_all (λ choice. nat_lt choice count) choices ≡ true → All (λ choice. choice < many) choices

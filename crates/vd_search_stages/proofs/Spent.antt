@@ -2,12 +2,12 @@
 use Rattle.std.proofs.Common.{◌≡◌, ℕ, Option, Some, None, Result, Ok, Err, List, sym, ap, ◌∙◌, subst, arith}
 use Rattle.std.proofs.lemmas.Int.{ints}
 use Rattle.std.specs.Prelude.{IfNone, IfOk}
-use Rattle.vd_cost_network.specs.Network.{network_tree}
+use Rattle.vd_space.specs.Network.{network_tree}
 use Rattle.vd_cost_network_prefix.specs.declared.made.NetworkTables.{NetworkTables}
 use Rattle.vd_search_tree.specs.Trees.{Tree}
 use Rattle.vd_search_tree.specs.declared.shift.Shift.{Shift}
 use Rattle.vd_space.specs.declared.problem.Problem.{Problem}
-use Rattle.vd_search_nogoods.specs.Untied.{WhySpent}
+use Rattle.vd_search.specs.Untied.{WhySpent}
 use Rattle.vd_search_stages.specs.Spending.{GivesOnly, IfUnended, IsOverByWalk, IsRootBound, IsSpentByArcs, early_part, network_part}
 use Rattle.vd_search_stages.specs.declared.trying.Tried.{Tried}
 use Rattle.vd_search_stages.specs.declared.trying.Tried.TheVariants.{Selected, Unended}

@@ -8,7 +8,7 @@ use Rattle.vd_search.specs.Answers.{Answers}
 use Rattle.vd_search.specs.declared.answers.Answer.{Answer}
 use Rattle.vd_space.specs.declared.problem.Problem.{Problem}
 use Rattle.vd_space.specs.Spaces.{IsProblem}
-use Rattle.vd_cost_network.specs.Network.{network_tree}
+use Rattle.vd_space.specs.Network.{network_tree}
 use Rattle.vd_cost_network_prefix.specs.declared.made.NetworkTables.{NetworkTables}
 use Rattle.vd_search_stages.specs.Network.{CanUseArcs, IsBeyond, Tells}
 use Rattle.vd_search_stages.specs.Selecting.{Selects}

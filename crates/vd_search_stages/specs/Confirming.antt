@@ -2,14 +2,14 @@
 use Rattle.std.specs.Prelude.{◌≡◌, ◌≢◌, ◌<◌, ◌≤◌, ℕ, if◌then◌else◌, Result, Err, IfOk, IsFalse, IsTrue, [], length}
 use Rattle.vd_base.specs.Limits.{most_certificate_shifts}
 use Rattle.vd_search_tree.specs.Trees.{Tree}
-use Rattle.vd_search_certificate.specs.declared.certificate.Certificate.{Certificate}
+use Rattle.vd_search_tree.specs.declared.search_certificate.certificate.Certificate.{Certificate}
 use Rattle.vd_bound.specs.declared.checking.CheckFault.{CheckFault}
 use Rattle.vd_bound.specs.declared.checking.CheckFault.TheVariants.{Memory}
 use Rattle.vd_bound.specs.declared.checking.Proved.{Proved}
 use Rattle.vd_bound.specs.Checking.{Proves}
 use Rattle.vd_bound.specs.Shifts.{certificate_checked}
-use Rattle.vd_cost_network.specs.Arcs.{arcs}
-use Rattle.vd_cost_network.specs.Network.{network_tree}
+use Rattle.vd_space.specs.Arcs.{arcs}
+use Rattle.vd_space.specs.Network.{network_tree}
 use Rattle.vd_cost_network_prefix.specs.declared.made.NetworkTables.{NetworkTables}
 use Rattle.vd_cost_network_prefix.specs.Tables.{AreNetworkTables}
 use Rattle.vd_space_prefix.specs.declared.tables.Tables.{Tables}

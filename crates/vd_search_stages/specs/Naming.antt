@@ -1,6 +1,6 @@
 -- Shifts that name what a problem has.
 use Rattle.std.specs.Prelude.{◌<◌, length}
-use Rattle.vd_search_certificate.specs.Texts.{IsShift}
+use Rattle.vd_search_tree.specs.Texts.{IsShift}
 use Rattle.vd_search_tree.specs.declared.shift.Shift.{Shift}
 use Rattle.vd_space.specs.declared.problem.Problem.{Problem}
 use Rattle.vd_space.specs.Validity.{protocols}

@@ -2,12 +2,12 @@
 use Rattle.std.specs.Prelude.{◌≡◌, ℕ, suc, ◌≤◌, ◌<◌, List, [], length, pos}
 use Rattle.std.specs.List.{AllByRecursion}
 use Rattle.vd_base.specs.Limits.{most_certificate_shifts}
-use Rattle.vd_search_certificate.specs.Texts.{IsShift}
-use Rattle.vd_cost_network.specs.Network.{network_tree}
-use Rattle.vd_cost_network.specs.Arcs.{arcs}
+use Rattle.vd_search_tree.specs.Texts.{IsShift}
+use Rattle.vd_space.specs.Network.{network_tree}
+use Rattle.vd_space.specs.Arcs.{arcs}
 use Rattle.vd_cost_network_prefix.specs.declared.made.NetworkTables.{NetworkTables}
 use Rattle.vd_cost_network_prefix.specs.Tables.{AreNetworkTables}
-use Rattle.vd_cost_network_shifts.specs.Shifts.{AreArcShifts}
+use Rattle.vd_cost_network_ascent.specs.Shifts.{AreArcShifts}
 use Rattle.vd_space_prefix.specs.declared.tables.Tables.{Tables}
 use Rattle.vd_space_prefix.specs.Tables.{AreTables}
 use Rattle.vd_search_tree.specs.Trees.{AtLeast}

@@ -1,11 +1,11 @@
 -- The assignment of a problem: the protocols of its choice.
 use Rattle.std.specs.Prelude.{◌≡◌, ℕ, IsTrue, Option, Some, None, option_map, List, map, pos, IfSome}
 use Rattle.vd_search.specs.Answers.{nat_or_zero}
-use Rattle.vd_search_certificate.specs.declared.certificate.Certificate.{Certificate}
+use Rattle.vd_search_tree.specs.declared.search_certificate.certificate.Certificate.{Certificate}
 use Rattle.vd_space.specs.declared.problem.Problem.{Problem}
 use Rattle.vd_space.specs.Costs.{cost}
 use Rattle.vd_space.specs.Validity.{protocol}
-use Rattle.vd_space_optimum.specs.Cheapest.{IsCheapestAssignment, cost_of}
+use Rattle.vd_space.specs.Cheapest.{IsCheapestAssignment, cost_of}
 use Rattle.vd_search_stages.specs.Choices.{ChoiceOutcomes, IsChosen}
 use Rattle.vd_search_stages.specs.Selecting.{IsAccepted}
 use Rattle.vd_search_stages.specs.SoFar.{has_own_form, is_bare}

@@ -1,8 +1,8 @@
 -- What a selection of protocols comes to.
 use Rattle.std.specs.Prelude.{◌≡◌, ℕ, ◌≤◌, true, Some, None, Ok, List, [], pos, ◌≤ℤ◌}
-use Rattle.vd_search_certificate.specs.declared.certificate.Certificate.{Certificate}
-use Rattle.vd_search_certificate.specs.declared.certificate.Mark.{Mark}
-use Rattle.vd_search_certificate.specs.Texts.{IsCertificate}
+use Rattle.vd_search_tree.specs.declared.search_certificate.certificate.Certificate.{Certificate}
+use Rattle.vd_search_tree.specs.declared.search_certificate.certificate.Mark.{Mark}
+use Rattle.vd_search_tree.specs.Texts.{IsCertificate}
 use Rattle.vd_bound.specs.declared.checking.Proved.{Proved}
 use Rattle.vd_bound.specs.Marks.{count_of, is_expanded}
 use Rattle.vd_search_tree.specs.Trees.{IsWhole}

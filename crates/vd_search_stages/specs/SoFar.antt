@@ -2,7 +2,7 @@
 -- besides is that each slot behind the prefix has a candidate.
 use Rattle.std.specs.Prelude.{◌≡◌, ℕ, IsTrue, Bool, true, false, ◌&&◌, ◌||◌, not, is_some, List, [], ◌∷◌, length, ℤ}
 use Rattle.std.specs.List.{list_all}
-use Rattle.vd_search_certificate.specs.declared.certificate.Certificate.{Certificate}
+use Rattle.vd_search_tree.specs.declared.search_certificate.certificate.Certificate.{Certificate}
 use Rattle.vd_search_tree.specs.Trees.{Tree}
 use Rattle.vd_search_tree.specs.declared.shift.Shift.{Shift}
 use Rattle.vd_space.specs.declared.problem.Problem.{Problem}

@@ -1,13 +1,13 @@
 -- When a search is spent: the budget of no stage does under the shifts that the stage has.
 use Rattle.std.specs.Prelude.{◌≡◌, ℕ, ◌+◌, ◌*◌, ◌/◌, ◌<◌, ⊤, Option, List, [], length, min, pos, IfSome, IsTrue}
-use Rattle.vd_cost_network.specs.Network.{network_tree}
+use Rattle.vd_space.specs.Network.{network_tree}
 use Rattle.vd_space_prefix.specs.declared.tables.Tables.{Tables}
 use Rattle.vd_search_tree.specs.Trees.{Tree}
 use Rattle.vd_search_tree.specs.declared.shift.Shift.{Shift}
 use Rattle.vd_search.specs.Answers.{Exceeds}
 use Rattle.vd_space.specs.declared.problem.Problem.{Problem}
 use Rattle.vd_space.specs.Usual.{usual}
-use Rattle.vd_search_nogoods.specs.Untied.{WhySpent}
+use Rattle.vd_search.specs.Untied.{WhySpent}
 use Rattle.vd_search_stages.specs.Selecting.{IsOver}
 use Rattle.vd_search_stages.specs.declared.trying.Tried.{Tried}
 use Rattle.vd_search_stages.specs.declared.trying.Tried.TheVariants.{Selected, Unended}

@@ -2,9 +2,9 @@
 
 ghost use Rattle.std.specs.Prelude.{◌≡◌, ℕ, Option, List, ◌≤◌, IfOk, IfSome, length, option_map};
 ghost use Rattle.std.specs.List.{All};
-ghost use Rattle.vd_cost_network_shifts.specs.Shifts.{AreArcShifts};
+ghost use Rattle.vd_cost_network_ascent.specs.Shifts.{AreArcShifts};
 ghost use Rattle.vd_cost_network_prefix.specs.Tables.{AreNetworkTables};
-ghost use Rattle.vd_space_ascent.specs.Shifts.{AreUseShifts};
+ghost use Rattle.vd_cost_network_ascent.specs.SpaceAscentShifts.{AreUseShifts};
 ghost use Rattle.vd_search_tree.specs.declared.shift.Shift.{Shift as Shifts};
 ghost use Rattle.vd_search_stages.specs.Network.{IsBeyond};
 ghost use Rattle.vd_space.specs.Labelled.{IsLabelled};
@@ -13,12 +13,11 @@ ghost use Rattle.vd_space.specs.declared.problem.Problem.{Problem as Problems};
 
 use crate::passing::walked;
 use std::alloc::{AllocError, Global};
-use vd_base_lists::Items;
-use vd_cost_network_ascent::Ascent;
+use vd_base::Items;
+use vd_cost_network_ascent::{Ascent, plain_shifts};
 use vd_cost_network_prefix::{NetworkPath, NetworkTables};
 use vd_search_tree::Shift;
 use vd_space::Problem;
-use vd_space_ascent::plain_shifts;
 
 /// An ascent over the arcs of a problem, and the shifts that it came to.
 #[derive(Drop)]

@@ -1,19 +1,18 @@
 //! The check of a certificate for a problem.
 
 ghost use Rattle.std.specs.Prelude.{◌≡◌, ◌<◌, IsFalse, false, length, true};
-ghost use Rattle.vd_cost_network.specs.Arcs.{arcs};
+ghost use Rattle.vd_space.specs.Arcs.{arcs};
 ghost use Rattle.vd_search_stages.specs.Confirming.{AreNetworkTablesFor, AreTablesFor, Confirms, IsSmallCertificate};
 ghost use Rattle.vd_search_stages.specs.SoFar.{is_bare as is_bare_problem};
 ghost use Rattle.vd_space.specs.WellFormed.{AreProtocols, IsWellFormed};
 
 use crate::so_far::{Decided, is_bare};
 use std::alloc::Global;
-use vd_base::Proto;
-use vd_base_lists::Items;
+use vd_base::{Items, Proto};
 use vd_bound::{CheckFault, Proved, check};
 use vd_cost_network_prefix::{NetworkPath, NetworkTables};
 use vd_cost_network_tables::network_tables;
-use vd_search_certificate::Certificate;
+use vd_search_tree::Certificate;
 use vd_space::Problem;
 use vd_space_prefix::{Path, Tables};
 use vd_space_tables::{all_protocols, tables};

@@ -1,7 +1,7 @@
 //! The search by arcs.
 
 ghost use Rattle.std.specs.Prelude.{◌≡◌, ◌≢◌, ◌<◌, [], IfNone, IfOk, IfSome, Err, true};
-ghost use Rattle.vd_cost_network.specs.Network.{network_tree};
+ghost use Rattle.vd_space.specs.Network.{network_tree};
 ghost use Rattle.vd_cost_network_prefix.specs.Tables.{AreNetworkTables};
 ghost use Rattle.vd_space_prefix.specs.Tables.{AreTables};
 ghost use Rattle.vd_search_stages.specs.Network.{CanUseArcs, CanSelectByArcs, HasArcShifts, Tells};
@@ -17,13 +17,12 @@ use crate::stages::{network_budget, try_some};
 use crate::trying::Tried;
 use crate::walking::select_by_walk;
 use std::alloc::{AllocError, Global};
-use vd_base_lists::Items;
+use vd_base::Items;
 use vd_cost_network_ascent::Ascent;
 use vd_cost_network_prefix::{NetworkPath, NetworkTables};
 use vd_cost_network_tables::network_tables;
 use vd_search::{Answer, SearchFault, search};
-use vd_search_certificate::{Certificate, Mark};
-use vd_search_tree::{Prefixes, Shift};
+use vd_search_tree::{Certificate, Mark, Prefixes, Shift};
 use vd_space::Problem;
 use vd_space_prefix::Tables;
 use vd_space_tables::tables;

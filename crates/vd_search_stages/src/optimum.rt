@@ -15,10 +15,9 @@ use crate::selecting::Selection;
 use crate::so_far::is_bare;
 use crate::stages::select_places;
 use std::alloc::{AllocError, Global};
-use vd_base::{Proto, protocol_at};
-use vd_base_lists::Items;
+use vd_base::{Items, Proto, protocol_at};
 use vd_search::SearchFault;
-use vd_search_certificate::Certificate;
+use vd_search_tree::Certificate;
 use vd_space::Problem;
 use vd_space_tables::all_protocols;
 

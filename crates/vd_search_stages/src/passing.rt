@@ -3,13 +3,13 @@
 ghost use Rattle.std.specs.Prelude.{◌≡◌, ◌==◌, IfOk, IfSome, is_some, length, nat_lt, true};
 ghost use Rattle.std.specs.List.{All, list_all};
 ghost use Rattle.vd_cost_network_ascent.specs.Walking.{made};
-ghost use Rattle.vd_cost_network_shifts.specs.Shifts.{AreArcShifts};
+ghost use Rattle.vd_cost_network_ascent.specs.Shifts.{AreArcShifts};
 ghost use Rattle.vd_cost_network_bound.specs.Bounds.{IsBoundOf};
 ghost use Rattle.vd_cost_network_prefix.specs.Tables.{AreNetworkTables};
 ghost use Rattle.vd_search_stages.specs.Network.{IsBeyond};
 
 use std::alloc::{AllocError, Global};
-use vd_base_lists::Items;
+use vd_base::Items;
 use vd_cost_network_ascent::{Ascent, Refutation, Walk};
 use vd_cost_network_bound::NetworkBound;
 use vd_cost_network_prefix::{NetworkPath, NetworkTables};

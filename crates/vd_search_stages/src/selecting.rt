@@ -12,13 +12,12 @@ ghost use Rattle.vd_space.specs.WellFormed.{IsWellFormed};
 ghost use Rattle.vd_search_stages.specs.Stages.{CanSelect};
 
 use std::alloc::{AllocError, Global};
-use vd_base_lists::Items;
-use vd_search::{Answer, SearchFault, search_above};
-use vd_search_budget::is_exceeded;
-use vd_search_certificate::{Certificate, Mark};
+use vd_base::Items;
+use vd_search::{Answer, SearchFault, is_exceeded, search_above};
+use vd_search_tree::{Certificate, Mark};
 use vd_space::Problem;
+use vd_space_api::usual;
 use vd_space_prefix::{Path, Tables};
-use vd_space_shifts::usual;
 use vd_space_tables::tables;
 
 /// What a selection came to.

@@ -8,8 +8,7 @@ ghost use Rattle.vd_space.specs.Validity.{guard_told, has_candidate as has_candi
 ghost use Rattle.vd_space.specs.WellFormed.{AreProtocols};
 
 use std::alloc::{AllocError, Global};
-use vd_base::Proto;
-use vd_base_lists::Items;
+use vd_base::{Items, Proto};
 use vd_search_tree::{Prefixes, no_choices};
 use vd_space::{
     Problem, has_candidate, is_candidate_at, is_guard_told, is_index_told, output_can_move,

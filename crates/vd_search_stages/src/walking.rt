@@ -2,23 +2,22 @@
 
 ghost use Rattle.std.specs.Prelude.{◌≡◌, ◌≢◌, ◌<◌, IfNone, IfOk, IfSome, Err};
 ghost use Rattle.std.specs.List.{All};
-ghost use Rattle.vd_cost_network.specs.Network.{network_tree};
+ghost use Rattle.vd_space.specs.Network.{network_tree};
 ghost use Rattle.vd_cost_network_prefix.specs.Tables.{AreNetworkTables};
 ghost use Rattle.vd_search_stages.specs.Network.{CanSelectByArcs, IsBeyond};
 ghost use Rattle.vd_search_stages.specs.Selecting.{Selects};
 ghost use Rattle.vd_search_stages.specs.Spending.{GivesOnly, IsOverByWalk};
 ghost use Rattle.vd_search.specs.declared.writing.SearchFault.TheVariants as search_fault;
-ghost use Rattle.vd_search_nogoods.specs.Untied.{WhySpent};
+ghost use Rattle.vd_search.specs.Untied.{WhySpent};
 
 use crate::ascents::Ascents;
 use crate::network::{bound_of_all, network_selection};
 use crate::selecting::Selection;
 use std::alloc::Global;
-use vd_base_lists::Items;
+use vd_base::Items;
 use vd_cost_network_ascent::Ascent;
 use vd_cost_network_prefix::{NetworkPath, NetworkTables};
-use vd_search::SearchFault;
-use vd_search_nogoods::search_untied;
+use vd_search::{SearchFault, search_untied};
 use vd_space::Problem;
 use vd_space_prefix::Tables;
 

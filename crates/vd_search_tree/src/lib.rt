@@ -4,8 +4,10 @@
 
 mod prefixes;
 mod room;
+mod search_certificate;
 mod shift;
 
 pub use prefixes::Prefixes;
 pub use room::no_choices;
+pub use search_certificate::{Certificate, Mark, files_have_one_outcome, texts_are_read_back};
 pub use shift::Shift;

@@ -2,7 +2,7 @@ ghost use Rattle.std.specs.Prelude.{◌≡◌, ℕ, ◌+◌, ◌<◌, ◌≤◌,
 ghost use Rattle.vd_search_tree.specs.Trees.{IsBounded, Tree};
 
 use std::alloc::{AllocError, Global};
-use vd_base_lists::Items;
+use vd_base::Items;
 
 /// A prefix that can grow by a choice and give its last choice back.
 pub trait Prefixes {

@@ -3,7 +3,7 @@
 ghost use Rattle.std.specs.Prelude.{◌≡◌, IfOk, length};
 
 use std::alloc::{AllocError, Global};
-use vd_base_lists::Items;
+use vd_base::Items;
 
 /// Room for so many choices.
 pub fn no_choices(alloc: Global, slots: usize) -> Result<Items<u32>, AllocError>

@@ -11,8 +11,7 @@ use crate::names::{bind, element, store, word, write};
 use crate::stores::zeros;
 use crate::world::World;
 use std::alloc::{AllocError, Global};
-use vd_base::{Inputs, Op, Outputs, Scope, Words, combine};
-use vd_base_lists::Items;
+use vd_base::{Inputs, Items, Op, Outputs, Scope, Words, combine};
 use vd_core::{Direction, Expr, Function, Host, Infix, Prefix, Segment, Sign, Source, Statement};
 
 /// The outputs of a source to each host. The inputs of a host are followed by zeros.

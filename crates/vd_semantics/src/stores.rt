@@ -4,8 +4,7 @@ ghost use Rattle.std.specs.Prelude.{◌≡◌, OnOk, IfOk, [], replicate, slice_
 ghost use Rattle.vd_semantics.specs.Stores.{put};
 
 use std::alloc::{AllocError, Global};
-use vd_base::Words;
-use vd_base_lists::Items;
+use vd_base::{Items, Words};
 
 /// Writes a word; up to there zeros stand.
 pub fn put_word(store: &mut Vec<u32>, at: usize, word: u32) -> Result<(), AllocError>

@@ -3,8 +3,7 @@ ghost use Rattle.vd_semantics.specs.World.{first_word, later_words, world_at_sta
 
 use std::alloc::{AllocError, Global};
 use std::marker::Model;
-use vd_base::{Inputs, Outputs, Words};
-use vd_base_lists::Items;
+use vd_base::{Inputs, Items, Outputs, Words};
 
 /// The words of one host that are still to come.
 #[derive(Drop)]

@@ -14,8 +14,9 @@ use Rattle.vd_constraints.specs.declared.labels.Labels.{Labels}
 use Rattle.vd_constraints.specs.Systems.{Constraints, IsRuleOf, IsSystem}
 use Rattle.vd_constraints.specs.Satisfies.{formula_at, bound_at, HoldsRule, SolvesRules, IsLeastSolution}
 use Rattle.vd_constraints.proofs.Front.{over-part}
-use Rattle.vd_labels_least.specs.Raising.{IsWithin, with_part}
-use Rattle.vd_labels_least.proofs.Front.{formula-same, formula-other, all_truths, IsReached, joined, raised, low, is_labelling, raised_reached, fewer}
+use Rattle.vd_solver.specs.LabelsLeastRaising.{IsWithin, with_part}
+use Rattle.vd_solver.proofs.Parts.{formula-same, formula-other, all_truths}
+use Rattle.vd_solver.proofs.LabelsLeastRaising.{IsReached, joined, raised, low, is_labelling, raised_reached, fewer}
 use Rattle.vd_solver.specs.declared.waiting.Waiting.{Waiting}
 use Rattle.vd_solver.specs.Reading.{read_part, part_number, IsIndex}
 use Rattle.vd_solver.specs.Visits.{IsWaiting, IsQueue, TakesRule, AddsRules}

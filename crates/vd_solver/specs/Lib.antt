@@ -1,3 +1,5 @@
 pub mod Raising
 pub mod Reading
 pub mod Visits
+pub mod LabelsLeastRaising
+pub mod Free

@@ -6,7 +6,7 @@ use Rattle.vd_constraints.specs.declared.system.Bound.TheVariants.{Constant, Sam
 use Rattle.vd_constraints.specs.declared.system.Lower.{Lower}
 use Rattle.vd_constraints.specs.declared.labels.Labels.{Labels}
 use Rattle.vd_constraints.specs.Satisfies.{formula_at, bound_at, HoldsRule}
-use Rattle.vd_labels_least.specs.Raising.{with_part}
+use Rattle.vd_solver.specs.LabelsLeastRaising.{with_part}
 
 -- the names of a bound's first formula
 abbrev pub bound_names : Labels → Bound → ℕ

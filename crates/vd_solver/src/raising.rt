@@ -3,7 +3,7 @@
 ghost use Rattle.std.specs.Prelude.{◌≡◌, MatchBool};
 ghost use Rattle.vd_formula.specs.TruthTable.{both_of};
 ghost use Rattle.vd_constraints.specs.Satisfies.{HoldsRule, IsBoundOver, bound_at, formula_at};
-ghost use Rattle.vd_labels_least.specs.Raising.{IsWithin, with_part};
+ghost use Rattle.vd_solver.specs.LabelsLeastRaising.{IsWithin, with_part};
 ghost use Rattle.vd_solver.specs.Raising.{Raises, bound_names};
 
 use vd_constraints::{Bound, Labels, Lower, Part, Place};

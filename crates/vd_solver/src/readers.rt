@@ -4,7 +4,7 @@ ghost use Rattle.std.specs.Prelude.{◌≡◌, ◌^◌, ◌<◌, [], IfOk, lengt
 ghost use Rattle.vd_solver.specs.Reading.{IsIndex, part_number, read_part};
 
 use std::alloc::{AllocError, Global};
-use vd_base_lists::Items;
+use vd_base::Items;
 use vd_constraints::{Bound, Part, Place, System};
 
 /// For each part, by its number, the places of the rules whose bounds read it.

@@ -3,14 +3,14 @@
 ghost use Rattle.std.specs.Prelude.{◌≡◌, IfOk};
 ghost use Rattle.vd_constraints.specs.Outcomes.{IsLabelled};
 ghost use Rattle.vd_constraints.specs.Satisfies.{IsLeastSolution};
-ghost use Rattle.vd_labels_least.specs.Free.{free};
+ghost use Rattle.vd_solver.specs.Free.{free};
 
 use crate::checking::first_failing;
 use crate::raising::raise;
 use crate::readers::{number, readers};
 use crate::waiting::Waiting;
 use std::alloc::{AllocError, Global};
-use vd_base_lists::Items;
+use vd_base::Items;
 use vd_constraints::{Labels, System};
 use vd_formula::{Formula, Label};
 

@@ -1,3 +1,11 @@
 pub mod Kinds
 pub mod Tables
 pub mod Tokens
+pub mod Grammar
+pub mod Machine
+pub mod Trees
+pub mod Laws
+pub mod Reading
+pub mod SourceSpellingKinds
+pub mod Texts
+pub mod Spelled

@@ -8,8 +8,7 @@ ghost use Rattle.vd_source_lexer.specs.Tables.{keyword_kinds};
 use crate::piece::{Piece, first_piece};
 use crate::token::{LexFault, Token, TokenKind};
 use std::alloc::Global;
-use vd_base::Span;
-use vd_base_lists::Items;
+use vd_base::{Items, Span};
 
 /// The tokens of a source in text order, the end last.
 pub fn tokens(alloc: Global, bytes: &[u8]) -> Result<Items<Token>, LexFault>

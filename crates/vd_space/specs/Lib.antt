@@ -10,3 +10,8 @@ pub mod Steps
 pub mod Labelled
 pub mod Sizes
 pub mod WellFormed
+pub mod Cheapest
+pub mod Points
+pub mod Arcs
+pub mod Network
+pub mod Worked

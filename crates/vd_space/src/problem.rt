@@ -1,7 +1,6 @@
 //! What the choice of protocols must know of a program.
 
-use vd_base::{HostId, Row, SlotId};
-use vd_base_lists::Items;
+use vd_base::{HostId, Items, Row, SlotId};
 use vd_formula::Label;
 
 /// What a slot asks of its protocol, how often its statement is executed, and its least label.

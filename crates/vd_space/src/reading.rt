@@ -10,8 +10,7 @@ ghost use Rattle.vd_space.specs.Steps.{with_block, with_branch, with_parts, with
 
 use crate::problem::{Guard, Index, Making, Output, Problem, Use};
 use std::alloc::{AllocError, Global};
-use vd_base::{Row, SlotId};
-use vd_base_lists::Items;
+use vd_base::{Items, Row, SlotId};
 use vd_constraints::{Labels, Place};
 use vd_core::{NormalForm, Program, Right, Stmt};
 use vd_formula::{Formula, Label};

@@ -14,7 +14,7 @@ use Rattle.vd_space.specs.declared.problem.Problem.{Problem}
 use Rattle.vd_space.specs.declared.problem.Making.{Making}
 use Rattle.vd_space.specs.Validity.{protocols, protocol, can_stand, stand, is_valid}
 use Rattle.vd_space.proofs.Front.{listed_at, parts_of}
-use Rattle.vd_space_optimum.specs.Cheapest.{IsAssignment}
+use Rattle.vd_space.specs.Cheapest.{IsAssignment}
 use Rattle.vd_space_api.specs.Places.{place_of, places_in}
 use Rattle.vd_space_api.proofs.Positions.{no_proto}
 

@@ -8,7 +8,7 @@ use Rattle.vd_space.specs.Costs.{cost}
 use Rattle.vd_space.specs.Bounds.{low}
 use Rattle.vd_space.specs.WellFormed.{IsWellFormed}
 use Rattle.vd_space.proofs.Front.{low_whole}
-use Rattle.vd_space_optimum.specs.Cheapest.{IsAssignment}
+use Rattle.vd_space.specs.Cheapest.{IsAssignment}
 use Rattle.vd_space_api.specs.Places.{place_of, places_of, places_in}
 use Rattle.vd_space_api.proofs.Assigned.{has_all, valid_places}
 

@@ -15,8 +15,8 @@ use Rattle.vd_space.specs.Costs.{One, Pair, weigh, moves_to, hosts_at, operation
 use Rattle.vd_space.specs.Bounds.{may_stand, only_if, least_at, nothing_left, least_one, least_pair, low}
 use Rattle.vd_space.specs.Sizes.{heft}
 use Rattle.vd_space.proofs.Front.{total_append, total_map}
-use Rattle.vd_space_shifts.specs.Rows.{if_passes, weighed}
-use Rattle.vd_space_shifts.proofs.Front.{if_pos, weigh_pos, least_pos}
+use Rattle.vd_space_api.specs.Rows.{if_passes, weighed}
+use Rattle.vd_space_api.proofs.Numbers.{if_pos, weigh_pos, least_pos}
 use Rattle.vd_space_api.specs.Low.{least_place, number_left, operation_number, told_number, use_number, index_number, least_operation, least_told, least_output, least_use, least_index, guard_number, least_guard, low_number}
 
 total_heft : {X : Type 0} (f : X → ℤ) (g : X → ℕ) → ((x : X) → f x ≡ pos (g x)) → (xs : List X) → total f xs ≡ pos (heft g xs)

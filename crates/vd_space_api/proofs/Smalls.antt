@@ -16,8 +16,8 @@ use Rattle.vd_space.specs.Costs.{moves_to, hosts_at}
 use Rattle.vd_space.specs.Bounds.{may_stand}
 use Rattle.vd_space.specs.Sizes.{heft, IsWithinLimits}
 use Rattle.vd_space.proofs.Front.{heft_append, index_price, small, told_price, row_price, move_price}
-use Rattle.vd_space_shifts.specs.Rows.{if_passes, weighed}
-use Rattle.vd_space_shifts.proofs.Front.{least_low, passes_low, weighed_low}
+use Rattle.vd_space_api.specs.Rows.{if_passes, weighed}
+use Rattle.vd_space_api.proofs.Numbers.{least_low, passes_low, weighed_low}
 use Rattle.vd_space_api.specs.Low.{least_place, number_left, operation_number, told_number, use_number, index_number, least_operation, least_told, least_use, least_index}
 
 left_low : (o : Option ℕ) → unwrap_or o 0 ≤ 1000000000 → number_left o ≤ 1000000000

@@ -15,7 +15,7 @@ use Rattle.vd_space.specs.Validity.{protocols, protocol, move, move_to_host, all
 use Rattle.vd_space.specs.Costs.{moves_to, hosts_at, plus, slots_of}
 use Rattle.vd_space.specs.Bounds.{may_stand}
 use Rattle.vd_space.specs.Sizes.{heft}
-use Rattle.vd_space_shifts.specs.Rows.{if_passes, weighed, least_number}
+use Rattle.vd_space_api.specs.Rows.{if_passes, weighed, least_number}
 
 abbrev pub least_place : Problem → List ℕ → ℕ → (ℕ → Option ℕ) → Option ℕ
 least_place problem prefix slot value = least_number (length (protocols problem)) (λ p. if_passes (may_stand problem prefix slot p) (value p))

@@ -7,13 +7,13 @@ ghost use Rattle.vd_space.specs.Costs.{hosts_at, moves_to};
 ghost use Rattle.vd_space.specs.Validity.{is_candidate, protocols};
 ghost use Rattle.vd_space.specs.WellFormed.{AreProtocols};
 ghost use Rattle.vd_space_api.specs.Low.{with_price, index_number, least_index, least_operation, least_place, least_told, least_use, number_left, operation_number, told_number, use_number};
-ghost use Rattle.vd_space_shifts.specs.Rows.{if_passes};
+ghost use Rattle.vd_space_api.specs.Rows.{if_passes};
 
+use crate::space_shifts::{lesser_number, price, weighed_cost};
 use vd_base::{HostId, Proto, is_holder};
 use vd_cost::move_cost;
 use vd_protocol::joins;
 use vd_space::{Index, Problem, Use, is_candidate_at};
-use vd_space_shifts::{lesser_number, price, weighed_cost};
 
 /// What a term with nothing left counts.
 const NOTHING_LEFT: u64 = 1_000_000_000;

@@ -7,5 +7,7 @@ mod high;
 mod least;
 mod places;
 mod space;
+mod space_shifts;
 
 pub use space::Space;
+pub use space_shifts::{lesser_number, price, usual, usual_shifts_are_few, weighed_cost};

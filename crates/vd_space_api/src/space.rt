@@ -11,20 +11,19 @@ ghost use Rattle.vd_space.specs.Usual.{usual};
 ghost use Rattle.vd_space.specs.Validity.{is_valid};
 ghost use Rattle.vd_space.specs.WellFormed.{AreProtocols, IsWellFormed};
 ghost use Rattle.vd_space_api.specs.Places.{places_in};
-ghost use Rattle.vd_space_optimum.specs.Cheapest.{IsAssignment};
+ghost use Rattle.vd_space.specs.Cheapest.{IsAssignment};
 
 use crate::places::{bound_of_prefix, high_of_prefix, is_valid_prefix};
+use crate::space_shifts::usual;
 use std::alloc::{AllocError, Global};
 use std::marker::Model;
-use vd_base::Proto;
-use vd_base_lists::Items;
+use vd_base::{Items, Proto};
 use vd_constraints::Labels;
 use vd_core::Program;
 use vd_protocol::protocols;
 use vd_search_tree::Shift;
 use vd_space::Problem;
 use vd_space_prefix::Tables;
-use vd_space_shifts::usual;
 use vd_space_tables::tables;
 
 /// The lists of protocols for the slots of a program, with the labels of its slots.

@@ -12,8 +12,7 @@ ghost use Rattle.vd_space.specs.WellFormed.{AreProtocols};
 
 use crate::steps::decided;
 use crate::transfers::amount_at;
-use vd_base::{HostId, Proto, is_holder, protocol_at};
-use vd_base_lists::Items;
+use vd_base::{HostId, Items, Proto, is_holder, protocol_at};
 use vd_space::{Guard, Problem, is_part};
 
 /// What it costs to tell a guard: to each host, at least, where its slot is not decided; and to each host from each place.

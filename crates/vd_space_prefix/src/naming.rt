@@ -7,8 +7,7 @@ ghost use Rattle.vd_space.specs.Growth.{guard_names, with_choice};
 ghost use Rattle.vd_space.specs.Validity.{guard_told, index_told, is_candidate, is_valid, output_joins, protocols, use_joins};
 ghost use Rattle.vd_space.specs.WellFormed.{AreProtocols};
 
-use vd_base::Proto;
-use vd_base_lists::Items;
+use vd_base::{Items, Proto};
 use vd_space::{
     Guard, Problem, are_holders_told, is_candidate_at, is_guard_told, is_index_told,
     output_can_move, use_can_move,

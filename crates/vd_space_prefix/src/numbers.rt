@@ -9,8 +9,7 @@ ghost use Rattle.vd_space.specs.Growth.{guard_names, index_names, output_names, 
 
 use crate::naming::Naming;
 use std::alloc::{AllocError, Global};
-use vd_base::SlotId;
-use vd_base_lists::Items;
+use vd_base::{Items, SlotId};
 use vd_space::{Guard, Index, Output, Problem, Use};
 
 /// What names each slot.

@@ -10,7 +10,7 @@ ghost use Rattle.vd_space.specs.Spaces.{IsProblem, tree_of};
 
 use crate::tables::{Sums, Tables, can_grow, grown};
 use std::alloc::{AllocError, Global};
-use vd_base_lists::Items;
+use vd_base::Items;
 use vd_search_tree::{Prefixes, no_choices};
 use vd_space::Problem;
 

@@ -5,7 +5,7 @@ ghost use Rattle.vd_space_prefix.specs.Steps.{AreArcs, IsArc, change, changes, u
 ghost use Rattle.vd_space_prefix.specs.Transfers.{ArePrices, IsWithin};
 
 use crate::transfers::{Arc, amount_at, cost_at, number_of};
-use vd_base_lists::Items;
+use vd_base::Items;
 
 /// Where the slot stands, if it is decided.
 pub(crate) fn decided(prefix: &[u32], slot: u32) -> Option<u32>

@@ -9,8 +9,7 @@ use crate::guards::{Telling, growth_of_guards};
 use crate::naming::{Naming, is_allowed};
 use crate::steps::growth_of;
 use crate::transfers::{Arc, amount_at};
-use vd_base::Proto;
-use vd_base_lists::Items;
+use vd_base::{Items, Proto};
 use vd_search_tree::Shift;
 use vd_space::Problem;
 

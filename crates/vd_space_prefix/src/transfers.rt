@@ -6,7 +6,7 @@ ghost use Rattle.vd_space.specs.Bounds.{nothing_left, only_if};
 ghost use Rattle.vd_space_prefix.specs.Transfers.{ArePrices, IsTransfer, IsWithin, by_place, cell, column_of, least_where, arc_of, priced, row_of, square_of, taken};
 
 use std::alloc::{AllocError, Global};
-use vd_base_lists::Items;
+use vd_base::Items;
 use vd_space::lesser_of;
 
 /// A value that is moved between two slots: how often, and what shifts take from its cost by the place of the protocol on

@@ -27,7 +27,7 @@ use Rattle.vd_space_prefix.specs.Guards.{guard_changes, AreTellings}
 use Rattle.vd_space_prefix.specs.Tables.{AreListed, AreTables, AreSmallAt, IsFew, GrowsBy, gain_at, naming_at, no_naming, low_part, shifted_part, common_part}
 use Rattle.vd_space_prefix.specs.Transfers.{IsWithin, by_place}
 use Rattle.vd_space_prefix.proofs.Front.{naming_allows, naming_named, arcs_grow, guards_grow, numbered, unnumbered, shifted_numbered, at_place, size_by_place}
-use Rattle.vd_space_terms.specs.Arcs.{AreArcsOf}
+use Rattle.vd_space_tables.specs.Arcs.{AreArcsOf}
 use Rattle.vd_space_tables.specs.declared.charges.Charge.{Charge}
 use Rattle.vd_space_tables.specs.Charges.{IsCharge, charge_of, outputs_of, telling_of}
 use Rattle.vd_space_tables.specs.Gains.{gain_by, gain_at_slot, gain_with, gains_with}

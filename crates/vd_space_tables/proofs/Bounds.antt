@@ -27,7 +27,7 @@ use Rattle.vd_space_prefix.specs.Guards.{IsTelling, told_under, told_if, guard_u
 use Rattle.vd_space_prefix.specs.Tables.{AreListed}
 use Rattle.vd_space_tables.specs.declared.charges.Charge.{Charge}
 use Rattle.vd_space_tables.specs.Charges.{IsCharge, charge_of, telling_of}
-use Rattle.vd_space_terms.specs.Arcs.{AreArcsOf}
+use Rattle.vd_space_tables.specs.Arcs.{AreArcsOf}
 use Rattle.vd_space_tables.specs.Parts.{AreSmallOnSlots}
 use Rattle.vd_space_tables.proofs.Small.{zero_within, more_within, charge_more, told_small, operation_small, merged_small}
 use Rattle.vd_space_tables.proofs.Charged.{one_under}

@@ -8,3 +8,13 @@ mod Bounds
 mod Assembled
 mod Merged
 mod Finished
+mod SpaceTermsMade
+mod Mapped
+mod Telling
+mod SpaceTermsSmall
+mod Counting
+mod Cells
+mod Network
+mod Placing
+mod Few
+mod Stepping

@@ -23,9 +23,9 @@ use Rattle.vd_space_prefix.specs.declared.transfers.Arc.{Arc}
 use Rattle.vd_space_prefix.specs.Tables.{AreListed, gain_at}
 use Rattle.vd_space_prefix.specs.Transfers.{IsWithin, by_place}
 use Rattle.vd_space_prefix.proofs.Front.{at_place}
-use Rattle.vd_space_terms.specs.Arcs.{AreArcsOf}
-use Rattle.vd_space_terms.specs.Prices.{candidates_of}
-use Rattle.vd_space_terms.specs.Sums.{slot_shifts_of, AreSmallSums}
+use Rattle.vd_space_tables.specs.Arcs.{AreArcsOf}
+use Rattle.vd_space_tables.specs.Prices.{candidates_of}
+use Rattle.vd_space_tables.specs.Sums.{slot_shifts_of, AreSmallSums}
 use Rattle.vd_space_tables.specs.declared.charges.Charge.{Charge}
 use Rattle.vd_space_tables.specs.Charges.{AreCandidates, IsCharge, charge_from, charge_of, operations_of, outputs_of, merged_of}
 use Rattle.vd_space_tables.specs.Values.{merged_value}

@@ -12,7 +12,7 @@ use Rattle.vd_space_prefix.specs.Steps.{AreArcs}
 use Rattle.vd_space_prefix.specs.Naming.{naming_of}
 use Rattle.vd_space_prefix.specs.Tables.{AreSumsOf}
 use Rattle.vd_space_prefix.specs.Transfers.{ArePrices, IsWithin, by_place}
-use Rattle.vd_space_terms.specs.Arcs.{AreArcsOf}
+use Rattle.vd_space_tables.specs.Arcs.{AreArcsOf}
 use Rattle.vd_space_tables.specs.declared.made.Moved.{Moved}
 use Rattle.vd_space_tables.specs.declared.made.Charges.{Charges}
 use Rattle.vd_space_tables.specs.declared.made.Kept.{Kept}

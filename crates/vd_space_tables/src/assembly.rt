@@ -2,21 +2,20 @@
 
 ghost use Rattle.std.specs.Prelude.{◌≡◌, ◌≤◌, IfOk, length};
 ghost use Rattle.vd_base.specs.Limits.{most_certificate_shifts};
-ghost use Rattle.vd_space_terms.specs.Prices.{candidates_of};
+ghost use Rattle.vd_space_tables.specs.Prices.{candidates_of};
 ghost use Rattle.vd_space_prefix.specs.Tables.{AreTables};
 ghost use Rattle.vd_space.specs.Labelled.{IsLabelled};
 ghost use Rattle.vd_space.specs.WellFormed.{AreProtocols, IsWellFormed};
 ghost use Rattle.vd_space_tables.specs.Charges.{AreCandidates};
 
 use crate::parts::{kept_parts, moved_values, slot_charges};
+use crate::space_terms::candidates;
 use std::alloc::{AllocError, Global};
-use vd_base::Proto;
-use vd_base_lists::Items;
+use vd_base::{Items, Proto};
 use vd_protocol::protocols;
 use vd_search_tree::Shift;
 use vd_space::Problem;
 use vd_space_prefix::Tables;
-use vd_space_terms::candidates;
 
 /// The tables of a problem and shifts.
 pub fn tables(alloc: Global, problem: &Problem, shifts: Items<Shift>) -> Result<Tables, AllocError>

@@ -12,8 +12,7 @@ ghost use Rattle.vd_space_tables.specs.Charges.{AreCandidates, charge_from, char
 
 use crate::values::{operation_values, told_values};
 use std::alloc::{AllocError, Global};
-use vd_base::{HostId, Proto, SlotId};
-use vd_base_lists::Items;
+use vd_base::{HostId, Items, Proto, SlotId};
 use vd_space::{Problem, lesser_of};
 use vd_space_prefix::number_of;
 

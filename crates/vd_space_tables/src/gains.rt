@@ -7,7 +7,7 @@ ghost use Rattle.vd_space_tables.specs.Gains.{gain_at_slot, gain_by, gain_with, 
 
 use crate::charges::Charge;
 use std::alloc::{AllocError, Global};
-use vd_base_lists::Items;
+use vd_base::Items;
 use vd_space_prefix::amount_at;
 
 /// By slot and place: what the charge of the slot and those of its outputs grow by.

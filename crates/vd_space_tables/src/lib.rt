@@ -7,9 +7,13 @@ mod gains;
 mod made;
 mod parts;
 mod shifted;
+mod space_terms;
 mod start;
 mod tellings;
 mod values;
 
 pub use assembly::{all_protocols, tables};
+pub use space_terms::{
+    candidates, index_arcs, index_prices, move_prices, shifted_use_arcs, slot_shifts, use_arcs,
+};
 pub use values::merged_values;

@@ -1,7 +1,7 @@
 //! What tables are made of.
 
 use crate::charges::Charge;
-use vd_base_lists::Items;
+use vd_base::Items;
 use vd_space_prefix::{Arc, Naming, Sums, Telling};
 
 /// What is moved between two slots: prices by place, and arcs by use and by index, without and under shifts.

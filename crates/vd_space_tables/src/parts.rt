@@ -2,7 +2,7 @@
 
 ghost use Rattle.std.specs.Prelude.{◌≡◌, ◌≤◌, IfOk, length, map};
 ghost use Rattle.vd_base.specs.Limits.{most_certificate_shifts};
-ghost use Rattle.vd_space_terms.specs.Prices.{candidates_of};
+ghost use Rattle.vd_space_tables.specs.Prices.{candidates_of};
 ghost use Rattle.vd_space.specs.Sizes.{IsWithinLimits};
 ghost use Rattle.vd_space.specs.WellFormed.{AreProtocols, IsWellFormed};
 ghost use Rattle.vd_space_tables.specs.Charges.{AreCandidates, telling_of};
@@ -12,15 +12,14 @@ use crate::charges::{Charge, operation_charges, output_charges};
 use crate::gains::gains_by_slot;
 use crate::made::{Charges, Kept, Moved};
 use crate::shifted::merged_charges;
+use crate::space_terms::{index_arcs, index_prices, move_prices, shifted_use_arcs, use_arcs};
 use crate::start::{common_start, low_start, shifted_start};
 use crate::tellings::tellings_by_guard;
 use std::alloc::{AllocError, Global};
-use vd_base::Proto;
-use vd_base_lists::Items;
+use vd_base::{Items, Proto};
 use vd_search_tree::Shift;
 use vd_space::Problem;
 use vd_space_prefix::{Sums, Telling, namings};
-use vd_space_terms::{index_arcs, index_prices, move_prices, shifted_use_arcs, use_arcs};
 
 /// What is moved between two slots.
 pub(crate) fn moved_values(

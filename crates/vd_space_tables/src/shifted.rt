@@ -2,20 +2,19 @@
 
 ghost use Rattle.std.specs.Prelude.{◌≡◌, ◌≤◌, ◌<◌, [], IfOk, length, slice_index_or};
 ghost use Rattle.vd_base.specs.Limits.{most_certificate_shifts};
-ghost use Rattle.vd_space_terms.specs.Sums.{AreSmallSums};
+ghost use Rattle.vd_space_tables.specs.Sums.{AreSmallSums};
 ghost use Rattle.vd_space.specs.Sizes.{IsWithinLimits};
 ghost use Rattle.vd_space.specs.WellFormed.{AreProtocols};
 ghost use Rattle.vd_space_tables.specs.Charges.{AreCandidates, merged_charge_of, merged_of};
 ghost use Rattle.vd_space_tables.specs.Parts.{AreSmallOnSlots};
 
 use crate::charges::{Charge, tests_at};
+use crate::space_terms::slot_shifts;
 use crate::values::merged_values;
 use std::alloc::{AllocError, Global};
-use vd_base::Proto;
-use vd_base_lists::Items;
+use vd_base::{Items, Proto};
 use vd_search_tree::Shift;
 use vd_space::Problem;
-use vd_space_terms::slot_shifts;
 
 /// The charges of operations and outputs together, with what shifts put on them, by slot.
 pub(crate) fn merged_charges(

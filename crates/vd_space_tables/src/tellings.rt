@@ -7,8 +7,7 @@ ghost use Rattle.vd_space.specs.WellFormed.{AreProtocols, IsWellFormed};
 
 use crate::charges::told_charge;
 use std::alloc::{AllocError, Global};
-use vd_base::{HostId, Proto};
-use vd_base_lists::Items;
+use vd_base::{HostId, Items, Proto};
 use vd_space::{Guard, Problem};
 use vd_space_prefix::Telling;
 

@@ -15,8 +15,7 @@ ghost use Rattle.vd_space.specs.WellFormed.{AreProtocols};
 ghost use Rattle.vd_space_tables.specs.Values.{AreSmall, HasRoom, merged_value, together, with_shift};
 
 use std::alloc::{AllocError, Global};
-use vd_base::{HostId, Proto, Row, protocol_at};
-use vd_base_lists::Items;
+use vd_base::{HostId, Items, Proto, Row, protocol_at};
 use vd_cost::{move_cost, op_cost};
 use vd_protocol::{holds, joins};
 use vd_space::{Output, Problem};

@@ -8,8 +8,8 @@ use Rattle.vd_base.specs.Holders.{proto_in}
 use Rattle.vd_core.specs.declared.normal.Right.{Right}
 use Rattle.vd_core.specs.declared.normal.Stmt.{Stmt, Let, NewVar, Store, NewArray, Put, Output, For}
 use Rattle.vd_execution.specs.Gadgets.{Gadget}
-use Rattle.vd_choreography.specs.Suite.{Calls, holders_among}
-use Rattle.vd_choreography.specs.Emission.{Emission, at_slot, delivered_at, right_acts_at, emission}
+use Rattle.vd_split.specs.Suite.{Calls, holders_among}
+use Rattle.vd_split.specs.Emission.{Emission, at_slot, delivered_at, right_acts_at, emission}
 use Rattle.vd_split.specs.Places.{acting}
 use Rattle.vd_split.proofs.Variants.{let_e, variable_e, array_e, store_e, put_e, output_e, for_e}
 

@@ -9,8 +9,8 @@ use Rattle.vd_core.specs.declared.normal.Right.{Right}
 use Rattle.vd_execution.specs.Gadgets.{Gadget}
 use Rattle.vd_duet.specs.Builder.{Builder}
 use Rattle.vd_duet.specs.Calls.{appended}
-use Rattle.vd_choreography.specs.Suite.{Calls, holders_among}
-use Rattle.vd_choreography.specs.Emission.{delivered, and_on, right_made}
+use Rattle.vd_split.specs.Suite.{Calls, holders_among}
+use Rattle.vd_split.specs.Emission.{delivered, and_on, right_made}
 use Rattle.vd_split.specs.Lines.{called}
 use Rattle.vd_split.specs.Places.{state, right_onto, let_onto, variable_onto, array_onto, store_onto, put_onto, output_onto}
 use Rattle.vd_split.proofs.Onto.{slot_onto, acts_onto, called_on, put_made_onto}

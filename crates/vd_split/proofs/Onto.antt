@@ -15,10 +15,10 @@ use Rattle.vd_execution.specs.Plans.{Plan, Ends, Then, Branch, Loop}
 use Rattle.vd_duet.specs.Builder.{Builder}
 use Rattle.vd_duet.specs.Calls.{emitted, appended}
 use Rattle.vd_duet.proofs.Front.{gadgets_append}
-use Rattle.vd_choreography.specs.Joint.{acts_then, and_then}
-use Rattle.vd_choreography.specs.Suite.{picked, Made, Calls, holders_among}
-use Rattle.vd_choreography.proofs.Front.{loop_kept, loop_kept_by}
-use Rattle.vd_choreography.specs.Emission.{Emitting, Emitted, delivered, all_moved, and_on, with_parts, with_acts, emission, block_emission, if_made, for_made, loop_registers, after_loop_registers}
+use Rattle.vd_split.specs.Joint.{acts_then, and_then}
+use Rattle.vd_split.specs.Suite.{picked, Made, Calls, holders_among}
+use Rattle.vd_split.proofs.Keeps.{loop_kept, loop_kept_by}
+use Rattle.vd_split.specs.Emission.{Emitting, Emitted, delivered, all_moved, and_on, with_parts, with_acts, emission, block_emission, if_made, for_made, loop_registers, after_loop_registers}
 use Rattle.vd_split.specs.Lines.{called, with_more, plan_lines, if_lines, else_lines, end_lines, for_lines, emitted_onto}
 use Rattle.vd_split.specs.Places.{joined, state, stmt_onto, block_onto, put_onto, takers, acting, opened_loop}
 

@@ -7,8 +7,8 @@ use Rattle.vd_execution.specs.declared.instructions.Line.TheVariants as line
 use Rattle.vd_execution.specs.Text.{register}
 use Rattle.vd_execution.specs.declared.instructions.Reg.{Reg}
 use Rattle.vd_duet.specs.Builder.{Builder, marked, reserved, TakesAtMost}
-use Rattle.vd_choreography.specs.Emission.{loop_registers, after_loop_registers}
-use Rattle.vd_choreography.proofs.Front.{after_known}
+use Rattle.vd_split.specs.Emission.{loop_registers, after_loop_registers}
+use Rattle.vd_split.proofs.Loops.{after_known}
 use Rattle.vd_split.specs.Lines.{for_lines}
 use Rattle.vd_split.specs.Places.{opened_loop}
 use Rattle.vd_split.proofs.Drops.{drop_next, drop_past}

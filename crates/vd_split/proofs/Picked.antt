@@ -4,7 +4,7 @@ use Rattle.std.specs.List.{list_any}
 use Rattle.vd_base.specs.declared.ids.HostId.{HostId}
 use Rattle.vd_base.specs.HostSets.{host}
 use Rattle.vd_duet.specs.Laws.{Each}
-use Rattle.vd_choreography.specs.Suite.{picked}
+use Rattle.vd_split.specs.Suite.{picked}
 
 pub picked_none : (from : ℕ) (test : ℕ → Bool) (n : ℕ) → n ≤ from → picked from (n - from) test ≡ []
 picked_none from test n le = ap (λ k. picked from k test) (gone n from le)

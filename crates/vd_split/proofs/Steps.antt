@@ -3,7 +3,7 @@ use Rattle.std.proofs.Common.{◌≡◌, ℕ, ◌+◌, ◌-◌, ◌≤◌, IsTru
 use Rattle.vd_base.specs.declared.protocols.Proto.{Proto}
 use Rattle.vd_core.specs.declared.normal.Stmt.{Stmt}
 use Rattle.vd_duet.specs.Builder.{TakesAtMost}
-use Rattle.vd_choreography.proofs.Front.{and_right}
+use Rattle.vd_split.proofs.Lists.{and_right}
 use Rattle.vd_split.specs.Offer.{Offer, Fit, AreHeld, CanEmit, Emits, fit, block_fit}
 use Rattle.vd_split.proofs.Rooms.{takes_on}
 

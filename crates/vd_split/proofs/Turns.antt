@@ -11,9 +11,9 @@ use Rattle.vd_base.specs.declared.protocols.Proto.TheVariants.{Local}
 use Rattle.vd_execution.specs.Gadgets.{Gadget}
 use Rattle.vd_duet.specs.Builder.{Builder}
 use Rattle.vd_duet.specs.Laws.{Each}
-use Rattle.vd_choreography.specs.Suite.{Made, Calls}
-use Rattle.vd_choreography.specs.Emission.{Emitting, delivered, all_moved, and_on, right_made}
-use Rattle.vd_choreography.proofs.Front.{and_right}
+use Rattle.vd_split.specs.Suite.{Made, Calls}
+use Rattle.vd_split.specs.Emission.{Emitting, delivered, all_moved, and_on, right_made}
+use Rattle.vd_split.proofs.Lists.{and_right}
 use Rattle.vd_split.specs.Lines.{called}
 use Rattle.vd_split.specs.Places.{joined}
 use Rattle.vd_split.proofs.Onto.{deliver_step, bring_step}

@@ -10,8 +10,8 @@ use Rattle.vd_core.specs.declared.normal.Stmt.TheFolds.{the_lemmas}
 use Rattle.vd_core.specs.declared.normal.Stmt.TheOpen.{Stmt-F}
 use Rattle.vd_execution.specs.Gadgets.{Gadget}
 use Rattle.vd_duet.specs.Builder.{Builder}
-use Rattle.vd_choreography.specs.Suite.{Calls, picked}
-use Rattle.vd_choreography.specs.Emission.{Emission, delivered, emission, stmt_emission}
+use Rattle.vd_split.specs.Suite.{Calls, picked}
+use Rattle.vd_split.specs.Emission.{Emission, delivered, emission, stmt_emission}
 use Rattle.vd_split.specs.Lines.{called, with_more, emitted_onto, if_lines, else_lines, end_lines}
 use Rattle.vd_split.specs.Places.{state, let_onto, variable_onto, array_onto, store_onto, put_onto, output_onto, stmt_onto, block_onto, branch_onto, loop_onto, guarded, takers, acting, branch_acts, opened_loop}
 use Rattle.vd_split.proofs.Onto.{branch_is, loop_is}

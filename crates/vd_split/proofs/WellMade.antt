@@ -14,8 +14,9 @@ use Rattle.vd_core.specs.declared.normal.Stmt.TheOpen.{Stmt-F}
 use Rattle.vd_core.specs.declared.normal.NormalForm.{NormalForm}
 use Rattle.vd_core.specs.Facts.{Sight, nothing_seen, Seeing, slots_step, seeing_step, seeing_all, right_sees, with_binding, with_variable, with_array, meets, all_meet, blocks_meet, of_rights, operands_fit, host_is_declared, count_step, cells_step, statement_count, cell_count, IsWellMade}
 use Rattle.vd_duet.specs.Builder.{HasRoom, register_bound}
-use Rattle.vd_choreography.specs.Block.{Block, End, Let, NewVar, NewArray, Store, Put, Output, If, For, block_of, each}
-use Rattle.vd_choreography.proofs.Front.{and_left, and_right, InRow, row_of, row_front, row_back, fold_each}
+use Rattle.vd_split.specs.Block.{Block, End, Let, NewVar, NewArray, Store, Put, Output, If, For, block_of, each}
+use Rattle.vd_split.proofs.Lists.{and_left, and_right, InRow, row_of, row_front, row_back}
+use Rattle.vd_split.proofs.Folds.{fold_each}
 use Rattle.vd_split.specs.Offer.{Offer, has_parts, right_stands, stmt_stands, right_fits, Fitting, fits_all, fit_step, block_fit, AreServed, AreHeld, CanEmit}
 use Rattle.vd_split.proofs.Rooms.{room_less}
 

@@ -1,3 +1,10 @@
 pub mod Lines
 pub mod Offer
 pub mod Places
+pub mod Block
+pub mod Emission
+pub mod Joint
+pub mod Outcome
+pub mod ChoreographyPlaces
+pub mod Suite
+pub mod Validity

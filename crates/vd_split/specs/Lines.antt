@@ -10,8 +10,8 @@ use Rattle.vd_execution.specs.Plans.{Plan, Ends, Then, Branch, Loop}
 use Rattle.vd_execution.specs.Text.{register}
 use Rattle.vd_duet.specs.Builder.{Builder}
 use Rattle.vd_duet.specs.Calls.{emitted}
-use Rattle.vd_choreography.specs.Suite.{Made, Calls}
-use Rattle.vd_choreography.specs.Emission.{Emitted}
+use Rattle.vd_split.specs.Suite.{Made, Calls}
+use Rattle.vd_split.specs.Emission.{Emitted}
 
 -- a line of each host that takes part
 abbrev pub if_lines : List (ℕ × ℕ) → List Line

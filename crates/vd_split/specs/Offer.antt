@@ -17,7 +17,7 @@ use Rattle.vd_core.specs.declared.normal.Stmt.TheOpen.{Stmt-F}
 use Rattle.vd_core.specs.declared.normal.Stmt.TheFolds.{fold-Stmt}
 use Rattle.vd_execution.specs.Gadgets.{Gadget}
 use Rattle.vd_duet.specs.Builder.{Builder, HasRoom, TakesAtMost}
-use Rattle.vd_choreography.specs.Suite.{Calls}
+use Rattle.vd_split.specs.Suite.{Calls}
 
 pub record Offer (P : Type 0) : Type 0 where
   pub calls : Calls Gadget P

@@ -9,9 +9,9 @@ use Rattle.vd_base.specs.Holders.{proto_in}
 use Rattle.vd_core.specs.declared.normal.Right.{Right}
 use Rattle.vd_core.specs.declared.normal.Stmt.{Stmt}
 use Rattle.vd_core.specs.declared.normal.NormalForm.{NormalForm}
-use Rattle.vd_choreography.specs.Suite.{Made, Calls}
-use Rattle.vd_choreography.specs.Suite.{picked}
-use Rattle.vd_choreography.specs.Emission.{Emitting, delivered, all_moved, and_on, parts_at, right_made, with_parts, store_made, put_made, output_made, if_made, for_made, emission, block_emission, emitting_at_start, loop_registers, after_loop_registers}
+use Rattle.vd_split.specs.Suite.{Made, Calls}
+use Rattle.vd_split.specs.Suite.{picked}
+use Rattle.vd_split.specs.Emission.{Emitting, delivered, all_moved, and_on, parts_at, right_made, with_parts, store_made, put_made, output_made, if_made, for_made, emission, block_emission, emitting_at_start, loop_registers, after_loop_registers}
 use Rattle.vd_execution.specs.Gadgets.{Gadget}
 use Rattle.vd_execution.specs.declared.instructions.Line.{Line}
 use Rattle.vd_execution.specs.Plans.{Plan, joint_of}

@@ -2,8 +2,8 @@ ghost use Rattle.std.specs.Prelude.{◌≡◌, ◌||◌, nat_eq};
 ghost use Rattle.std.specs.List.{list_any};
 ghost use Rattle.vd_base.specs.declared.protocols.Proto.TheVariants.{Local as AtHost};
 ghost use Rattle.vd_base.specs.Holders.{is_holder, proto_in};
-ghost use Rattle.vd_choreography.specs.Suite.{picked, holders_among};
-ghost use Rattle.vd_choreography.specs.Emission.{right_acts_at, emission};
+ghost use Rattle.vd_split.specs.Suite.{picked, holders_among};
+ghost use Rattle.vd_split.specs.Emission.{right_acts_at, emission};
 ghost use Rattle.vd_split.specs.Places.{takers, acting, guard_acts, branch_acts};
 
 use crate::protocols::Protocols;

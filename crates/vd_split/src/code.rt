@@ -2,8 +2,7 @@ ghost use Rattle.std.specs.Prelude.{◌≡◌, ◌∷◌, ◌++◌, [], if◌the
 ghost use Rattle.vd_execution.specs.Text.{pick, pick_act};
 
 use std::alloc::{AllocError, Global};
-use vd_base::HostId;
-use vd_base_lists::Items;
+use vd_base::{HostId, Items};
 use vd_execution::{Act, Instr, Line};
 
 /// An instruction at the end, where the host has it.

@@ -3,6 +3,7 @@
 
 mod acting;
 mod blocks;
+mod choreography;
 mod code;
 mod marks;
 mod moves;

@@ -11,8 +11,7 @@ ghost use Rattle.vd_split.specs.Places.{slot_moved, slot_delivered_onto, moved_o
 use crate::protocols::Protocols;
 use crate::slots::parts_of;
 use std::alloc::AllocError;
-use vd_base::{HostId, Proto, SlotId, proto_of};
-use vd_base_lists::Items;
+use vd_base::{HostId, Items, Proto, SlotId, proto_of};
 use vd_duet::Duet;
 
 /// The move of a slot's word to a protocol.

@@ -8,8 +8,7 @@ ghost use Rattle.vd_split.specs.Offer.{Offer, CanCall};
 ghost use Rattle.vd_split.specs.Lines.{Makes};
 
 use std::alloc::AllocError;
-use vd_base::{HostId, Op, Proto};
-use vd_base_lists::Items;
+use vd_base::{HostId, Items, Op, Proto};
 use vd_duet::Duet;
 
 /// All protocols together, as the splitter asks for them. Each call that is lent a `Duet` gives what the call of `offer`

@@ -10,8 +10,7 @@ use crate::moves::{deliver, move_all, move_slot};
 use crate::protocols::Protocols;
 use crate::slots::{hosts_at, parts_of};
 use std::alloc::AllocError;
-use vd_base::{Op, Proto, SlotId, proto_of};
-use vd_base_lists::Items;
+use vd_base::{Items, Op, Proto, SlotId, proto_of};
 use vd_core::Right;
 use vd_duet::Duet;
 

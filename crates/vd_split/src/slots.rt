@@ -1,10 +1,9 @@
 ghost use Rattle.std.specs.Prelude.{◌≡◌, IfOk, slice_index_or};
-ghost use Rattle.vd_choreography.specs.Suite.{holders_among};
+ghost use Rattle.vd_split.specs.Suite.{holders_among};
 
 use crate::protocols::Protocols;
 use std::alloc::AllocError;
-use vd_base::{HostId, Proto, SlotId, is_holder};
-use vd_base_lists::Items;
+use vd_base::{HostId, Items, Proto, SlotId, is_holder};
 use vd_duet::Duet;
 
 /// The parts of a slot.

@@ -8,8 +8,7 @@ use crate::protocols::Protocols;
 use crate::rights::right_side;
 use crate::slots::{hosts_at, parts_of};
 use std::alloc::AllocError;
-use vd_base::{HostId, Proto, SlotId, proto_of};
-use vd_base_lists::Items;
+use vd_base::{HostId, Items, Proto, SlotId, proto_of};
 use vd_core::Right;
 use vd_duet::Duet;
 

@@ -1,13 +1,12 @@
 ghost use Rattle.std.specs.Prelude.{◌≡◌, ◌||◌, nat_eq, IfOk};
 ghost use Rattle.std.specs.List.{list_any};
 ghost use Rattle.vd_base.specs.Holders.{is_holder, proto_in};
-ghost use Rattle.vd_choreography.specs.Emission.{right_takes_part, emission, block_emission};
+ghost use Rattle.vd_split.specs.Emission.{right_takes_part, emission, block_emission};
 ghost use Rattle.vd_split.specs.Places.{all_takers, takers};
 
 use crate::protocols::Protocols;
 use std::alloc::AllocError;
-use vd_base::{HostId, Proto, SlotId, is_holder, proto_of};
-use vd_base_lists::Items;
+use vd_base::{HostId, Items, Proto, SlotId, is_holder, proto_of};
 use vd_core::{Right, Stmt};
 use vd_duet::Duet;
 

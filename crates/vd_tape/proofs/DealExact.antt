@@ -8,9 +8,9 @@ use Rattle.vd_base.specs.Limits.{most_hosts, most_deal_items}
 use Rattle.vd_base_codec.specs.Reading.{◌>>=◌, literal_at, field}
 use Rattle.vd_base_codec.specs.Exact.{IsAnything, IsExact, IsExactWhole, StopsAt}
 use Rattle.vd_base_codec.proofs.Front.{done_exact, literal_exact, Picks, then_exact, AreEach, exact_as, exact_for, whole_exact, stops_single}
-use Rattle.vd_deal_items.specs.declared.deal.Deal.{Deal}
+use Rattle.vd_tape.specs.declared.deal_items.deal.Deal.{Deal}
 use Rattle.vd_base.specs.Words.{IsWord}
-use Rattle.vd_deal_items.specs.Validity.{AreTripleWords, ArePairWords, AreWithin}
+use Rattle.vd_tape.specs.Validity.{AreTripleWords, ArePairWords, AreWithin}
 use Rattle.vd_tape.specs.declared.reading.Shares.{Shares}
 use Rattle.vd_tape.specs.Text.{list_text, shares_text, deal_text, IsDealOf, IsFileOf, IsDealText}
 use Rattle.vd_tape.specs.Outcome.{DealsFollowGrammar}

@@ -6,8 +6,8 @@ use Rattle.std.proofs.lemmas.Option.{slice_get_within, slice_get-get_or, get_or_
 use Rattle.std.proofs.lemmas.List.{get_or_append_left}
 use Rattle.std.proofs.Math.Seq.{get_or-append_seam}
 use Rattle.vd_base.specs.Limits.{most_hosts}
-use Rattle.vd_deal_items.specs.declared.deal.Deal.{Deal}
-use Rattle.vd_deal_items.specs.Validity.{AreDeals}
+use Rattle.vd_tape.specs.declared.deal_items.deal.Deal.{Deal}
+use Rattle.vd_tape.specs.Validity.{AreDeals}
 use Rattle.vd_tape.specs.Text.{IsDealOf, AreDealsOf}
 
 pub no_deals : (hosts : ℕ) → AreDealsOf hosts []

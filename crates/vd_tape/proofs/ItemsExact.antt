@@ -6,10 +6,10 @@ use Rattle.vd_base.specs.Limits.{most_deal_items}
 use Rattle.vd_base_codec.specs.Reading.{Reading, ◌>>=◌, byte_at, field_at, each_at, field}
 use Rattle.vd_base_codec.specs.Exact.{IsBreak, IsAnything, IsExact}
 use Rattle.vd_base_codec.proofs.Front.{done_exact, byte_exact, Picks, then_exact, AreEach, break_each, each_exact, exact_for, AtMost, field_exact}
-use Rattle.vd_deal_items.specs.declared.items.Triple.{Triple}
-use Rattle.vd_deal_items.specs.declared.items.PairItem.{PairItem}
+use Rattle.vd_tape.specs.declared.deal_items.items.Triple.{Triple}
+use Rattle.vd_tape.specs.declared.deal_items.items.PairItem.{PairItem}
 use Rattle.vd_base.specs.Words.{IsWord}
-use Rattle.vd_deal_items.specs.Validity.{AreTripleWords, ArePairWords}
+use Rattle.vd_tape.specs.Validity.{AreTripleWords, ArePairWords}
 use Rattle.vd_tape.specs.Text.{triple_text, pair_text, list_text}
 use Rattle.vd_tape.specs.Reading.{word_at, triple_at, pair_at, list_at}
 

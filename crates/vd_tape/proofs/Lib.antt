@@ -12,3 +12,5 @@ mod MadeValid
 mod MadeWords
 mod EachHost
 mod Apart
+mod DealKeystreamApart
+mod Keys

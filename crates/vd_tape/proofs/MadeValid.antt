@@ -12,13 +12,13 @@ use Rattle.std.proofs.lemmas.List.FromFn.{length-map-range_with_len, get_or-map-
 use Rattle.std.proofs.lemmas.List.Elements.{All-from_recursion}
 use Rattle.rand_chacha.specs.Block.{block_word}
 use Rattle.vd_base.specs.Limits.{most_deal_items}
-use Rattle.vd_deal_items.specs.declared.deal.Deal.{Deal}
-use Rattle.vd_deal_items.specs.declared.deal.Counts.{Counts}
-use Rattle.vd_deal_items.specs.declared.deal.DealKind.{DealKind}
-use Rattle.vd_deal_items.specs.declared.deal.DealKind.TheVariants.{Own, Mul, And, Pair}
+use Rattle.vd_tape.specs.declared.deal_items.deal.Deal.{Deal}
+use Rattle.vd_tape.specs.declared.deal_items.deal.Counts.{Counts}
+use Rattle.vd_tape.specs.declared.deal_items.deal.DealKind.{DealKind}
+use Rattle.vd_tape.specs.declared.deal_items.deal.DealKind.TheVariants.{Own, Mul, And, Pair}
 use Rattle.vd_base.specs.Identities.{mul_left, and_left, pair_left}
-use Rattle.vd_deal_items.specs.Identities.{MeetsMul, MeetsAnd, MeetsPair, zero_triple, zero_pair}
-use Rattle.vd_deal_items.specs.Validity.{peer_at, peer_place, shared_with, Meets, IsDeal, AreDeals, AreWithin, IsConsistent}
+use Rattle.vd_tape.specs.Identities.{MeetsMul, MeetsAnd, MeetsPair, zero_triple, zero_pair}
+use Rattle.vd_tape.specs.Validity.{peer_at, peer_place, shared_with, Meets, IsDeal, AreDeals, AreWithin, IsConsistent}
 use Rattle.vd_tape.specs.Made.{keyed_word, words_from, shared_stream, part_of, mul_parts, and_parts, pair_parts, mul_item, and_item, pair_item, first_of, keyed_deal, keyed_deals, number_key, made_deals, AreCounts}
 
 -- ---- values of a function

@@ -8,9 +8,9 @@ use Rattle.std.proofs.lemmas.Option.{slice_get_within, get_or_from_slice_get}
 use Rattle.std.proofs.lemmas.List.Elements.{All-from_recursion}
 use Rattle.std.proofs.lemmas.List.FromFn.{length-map-range_with_len, get_or-map-range_with_len}
 use Rattle.vd_base.specs.Identities.{and_left, pair_left}
-use Rattle.vd_deal_items.specs.declared.deal.Counts.{Counts}
+use Rattle.vd_tape.specs.declared.deal_items.deal.Counts.{Counts}
 use Rattle.vd_base.specs.Words.{IsWord}
-use Rattle.vd_deal_items.specs.Validity.{AreDeals, ArePairWords, AreTripleWords, HasWords, peer_at}
+use Rattle.vd_tape.specs.Validity.{AreDeals, ArePairWords, AreTripleWords, HasWords, peer_at}
 use Rattle.vd_tape.specs.Made.{and_item, and_parts, first_of, keyed_deal, keyed_deals, keyed_word, made_deals, mul_item, mul_parts, number_key, pair_item, pair_parts, shared_stream, words_from}
 use Rattle.vd_tape.specs.Text.{AreDealsOf}
 use Rattle.vd_tape.proofs.MadeValid.{below_word, word_bound}

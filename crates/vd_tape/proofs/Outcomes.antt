@@ -4,7 +4,7 @@ use Rattle.std.specs.Prelude.{◌↔◌, IfOk, IfErr}
 use Rattle.vd_base_codec.specs.Reading.{capped, to_the_end}
 use Rattle.vd_base_codec.specs.Exact.{IsAnything}
 use Rattle.vd_base_codec.proofs.Front.{stops_single, left_within}
-use Rattle.vd_deal_items.specs.declared.deal.Deal.{Deal}
+use Rattle.vd_tape.specs.declared.deal_items.deal.Deal.{Deal}
 use Rattle.vd_base.specs.declared.faults.FileFault.{FileFault}
 use Rattle.vd_base.specs.declared.faults.FileFault.TheVariants.{Text, Memory}
 use Rattle.vd_tape.specs.Text.{deal_text, IsDealText, IsDealOf}

@@ -4,9 +4,9 @@ use Rattle.std.proofs.lemmas.List.{append-nil}
 use Rattle.vd_base_codec.specs.Reading.{Reading, ◌>>=◌, StopsOrMemory}
 use Rattle.vd_base_codec.specs.declared.fault.CodecFault.{CodecFault}
 use Rattle.vd_base_codec.specs.declared.fault.CodecFault.TheVariants as fault
-use Rattle.vd_deal_items.specs.Validity.{peer_at}
-use Rattle.vd_deal_items.specs.declared.items.Triple.{Triple}
-use Rattle.vd_deal_items.specs.declared.items.PairItem.{PairItem}
+use Rattle.vd_tape.specs.Validity.{peer_at}
+use Rattle.vd_tape.specs.declared.deal_items.items.Triple.{Triple}
+use Rattle.vd_tape.specs.declared.deal_items.items.PairItem.{PairItem}
 use Rattle.vd_tape.specs.declared.reading.Share.{Share}
 use Rattle.vd_tape.specs.declared.reading.Shares.{Shares}
 use Rattle.vd_tape.specs.Reading.{share_at, shares_at, with_share, no_shares}

@@ -5,11 +5,11 @@ use Rattle.std.proofs.lemmas.List.{append-nil}
 use Rattle.vd_base_codec.specs.Reading.{Reading, ◌>>=◌, literal_at, field}
 use Rattle.vd_base_codec.specs.Exact.{IsAnything, IsExact}
 use Rattle.vd_base_codec.proofs.Front.{bind_assoc, done_exact, literal_exact, Picks, then_exact, AreEach, head_or, tail, same_cons, exact_as}
-use Rattle.vd_deal_items.specs.declared.items.Triple.{Triple}
-use Rattle.vd_deal_items.specs.declared.items.PairItem.{PairItem}
-use Rattle.vd_deal_items.specs.Identities.{zero_triple, zero_pair}
+use Rattle.vd_tape.specs.declared.deal_items.items.Triple.{Triple}
+use Rattle.vd_tape.specs.declared.deal_items.items.PairItem.{PairItem}
+use Rattle.vd_tape.specs.Identities.{zero_triple, zero_pair}
 use Rattle.vd_base.specs.Words.{IsWord}
-use Rattle.vd_deal_items.specs.Validity.{AreTripleWords, ArePairWords, peer_at}
+use Rattle.vd_tape.specs.Validity.{AreTripleWords, ArePairWords, peer_at}
 use Rattle.vd_tape.specs.declared.reading.Share.{Share}
 use Rattle.vd_tape.specs.declared.reading.Shares.{Shares}
 use Rattle.vd_tape.specs.Text.{triple_text, pair_text, list_text, share_text, shares_text}

@@ -1,10 +1,10 @@
 -- All items of all hosts, two by two.
 use Rattle.std.proofs.Common.{◌≡◌, ℕ, ◌+◌, ◌<◌, ◌≤◌, List, length, get_or, Some, inl, inr, refl, sym, ap, subst, ◌∙◌, arith}
 use Rattle.std.specs.Prelude.{slice_get}
-use Rattle.vd_deal_items.specs.declared.deal.Deal.{Deal}
-use Rattle.vd_deal_items.specs.declared.deal.DealKind.{DealKind}
-use Rattle.vd_deal_items.specs.declared.deal.BadItem.{BadItem}
-use Rattle.vd_deal_items.specs.Validity.{Meets, IsDeal, AreDeals, IsConsistent, IsFirstBad}
+use Rattle.vd_tape.specs.declared.deal_items.deal.Deal.{Deal}
+use Rattle.vd_tape.specs.declared.deal_items.deal.DealKind.{DealKind}
+use Rattle.vd_tape.specs.declared.deal_items.deal.BadItem.{BadItem}
+use Rattle.vd_tape.specs.Validity.{Meets, IsDeal, AreDeals, IsConsistent, IsFirstBad}
 use Rattle.vd_base.specs.declared.ids.HostId.{HostId}
 use Rattle.vd_tape.specs.Consistency.{IsFirstOfTwo}
 use Rattle.std.proofs.lemmas.Option.{slice_get_read, slice_get_within}

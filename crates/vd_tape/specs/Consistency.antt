@@ -1,9 +1,9 @@
 -- The first item of two hosts that breaks its identity.
 use Rattle.std.specs.Prelude.{◌≡◌, ◌≢◌, ◌⊎◌, ℕ, ◌<◌}
-use Rattle.vd_deal_items.specs.declared.deal.Deal.{Deal}
-use Rattle.vd_deal_items.specs.declared.deal.DealKind.{DealKind}
-use Rattle.vd_deal_items.specs.declared.deal.BadItem.{BadItem}
-use Rattle.vd_deal_items.specs.Validity.{Meets, sides, rank}
+use Rattle.vd_tape.specs.declared.deal_items.deal.Deal.{Deal}
+use Rattle.vd_tape.specs.declared.deal_items.deal.DealKind.{DealKind}
+use Rattle.vd_tape.specs.declared.deal_items.deal.BadItem.{BadItem}
+use Rattle.vd_tape.specs.Validity.{Meets, sides, rank}
 
 -- of one kind
 pub record IsFirstBroken (p q : Deal) (kind : DealKind) (bad : BadItem) : Type 0 where

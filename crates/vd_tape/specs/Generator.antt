@@ -1,7 +1,7 @@
 -- Where a generator stands, and the words that it gives from there on.
 use Rattle.std.specs.Prelude.{◌≡◌, ℕ, ◌+◌, List}
 use Rattle.rand_chacha.specs.ChaCha.{ChaCha, word_at}
-use Rattle.vd_deal_items.specs.declared.items.Triple.{Triple}
+use Rattle.vd_tape.specs.declared.deal_items.items.Triple.{Triple}
 use Rattle.vd_tape.specs.Made.{cipher_key}
 
 -- it has this key, and stands at this place of this stream

@@ -4,3 +4,6 @@ pub mod Outcome
 pub mod Consistency
 pub mod Made
 pub mod Generator
+pub mod Drawn
+pub mod Identities
+pub mod Validity

@@ -2,7 +2,7 @@
 use Rattle.std.specs.Prelude.{◌≡◌, ◌≢◌, ◌↔◌, ℕ, List, Result, Ok, Err}
 use Rattle.vd_base_codec.specs.Reading.{capped}
 use Rattle.vd_base_codec.specs.Exact.{StopsAt}
-use Rattle.vd_deal_items.specs.declared.deal.Deal.{Deal}
+use Rattle.vd_tape.specs.declared.deal_items.deal.Deal.{Deal}
 use Rattle.vd_base.specs.declared.faults.FileFault.{FileFault}
 use Rattle.vd_base.specs.declared.faults.FileFault.TheVariants.{Text, Memory}
 use Rattle.vd_tape.specs.Text.{IsFileOf, IsDealText}

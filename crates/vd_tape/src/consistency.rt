@@ -2,16 +2,15 @@
 
 ghost use Rattle.std.specs.Prelude.{◌≡◌, ℕ, ◌≤◌, MatchResult};
 ghost use Rattle.vd_base.specs.Limits.{most_deal_items};
-ghost use Rattle.vd_deal_items.specs.declared.deal.DealKind.{DealKind};
-ghost use Rattle.vd_deal_items.specs.Identities.{triple_at, pair_at};
-ghost use Rattle.vd_deal_items.specs.Validity.{IsDeal, AreDeals, IsConsistent, IsFirstBad, Meets, sides, shared_with};
+ghost use Rattle.vd_tape.specs.declared.deal_items.deal.DealKind.{DealKind};
+ghost use Rattle.vd_tape.specs.Identities.{triple_at, pair_at};
+ghost use Rattle.vd_tape.specs.Validity.{IsDeal, AreDeals, IsConsistent, IsFirstBad, Meets, sides, shared_with};
 ghost use Rattle.vd_tape.specs.Consistency.{IsFirstBroken, IsFirstOfTwo};
 
-use vd_base::HostId;
-use vd_base_lists::Items;
-use vd_deal_items::{
+use crate::deal_items::{
     BadItem, Deal, DealKind, Deals, PairItem, Triple, and_sides, mul_sides, pair_sides,
 };
+use vd_base::{HostId, Items};
 
 /// Whether each item of each two hosts meets its identity, each list being followed by zero items; else the first that breaks it.
 ///

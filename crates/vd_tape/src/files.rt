@@ -6,11 +6,11 @@ ghost use Rattle.vd_tape.specs.Text.{IsDealOf};
 ghost use Rattle.vd_tape.specs.Reading.{deal_read};
 ghost use Rattle.vd_tape.specs.Outcome.{Accepts, Refuses, IsFaultOf};
 
+use crate::deal_items::Deal;
 use crate::reading::read_file;
 use std::alloc::Global;
 use vd_base::{FileFault, HostId};
 use vd_base_codec::{CodecFault, Cursor, offset};
-use vd_deal_items::Deal;
 
 /// The deal of one host among so many, from its file.
 ///

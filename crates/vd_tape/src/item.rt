@@ -5,10 +5,10 @@ ghost use Rattle.vd_base_codec.specs.Reading.{Reading, Gives, field};
 ghost use Rattle.vd_tape.specs.Text.{triple_text, pair_text};
 ghost use Rattle.vd_tape.specs.Reading.{word_at, triple_at, pair_at};
 
+use crate::deal_items::{PairItem, Triple};
 use std::alloc::AllocError;
 use vd_base::Bytes;
 use vd_base_codec::{Cursor, Stopped, push_field};
-use vd_deal_items::{PairItem, Triple};
 
 /// What stands in a dealt list: words, each behind a space.
 pub trait Item: Copy + Drop {

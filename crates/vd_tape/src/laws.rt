@@ -2,8 +2,8 @@
 
 ghost use Rattle.std.specs.Prelude.{◌≡◌, ℕ, ◌≤◌, ◌<◌, List, [], ◌∷◌, ◌++◌, length, Ok};
 ghost use Rattle.vd_base.specs.Limits.{most_hosts};
-ghost use Rattle.vd_deal_items.specs.declared.deal.Deal.{Deal};
-ghost use Rattle.vd_deal_items.specs.Validity.{AreDeals};
+ghost use Rattle.vd_tape.specs.declared.deal_items.deal.Deal.{Deal};
+ghost use Rattle.vd_tape.specs.Validity.{AreDeals};
 ghost use Rattle.vd_tape.specs.Made.{StreamsAreApart};
 ghost use Rattle.vd_tape.specs.Text.{deal_text, IsDealOf, AreDealsOf};
 ghost use Rattle.vd_tape.specs.Reading.{deal_read};

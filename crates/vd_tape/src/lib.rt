@@ -2,6 +2,8 @@
 #![tactic(auto)]
 
 mod consistency;
+mod deal_items;
+mod deal_keystream;
 mod files;
 mod item;
 mod laws;
@@ -10,6 +12,11 @@ mod reading;
 mod writing;
 
 pub use consistency::consistent;
+pub use deal_items::{
+    BadItem, Counts, Deal, DealKind, Deals, PairItem, Triple, and_sides, mul_sides, pair_sides,
+    zero_items_meet,
+};
+pub use deal_keystream::what_is_dealt_is_drawn_once;
 pub use files::read_deal;
 pub use item::Item;
 pub use laws::{

@@ -3,18 +3,17 @@
 ghost use Rattle.std.specs.Prelude.{◌≡◌, min, max, ◌+◌, ◌<◌, ◌≤◌, ◌^◌, IfOk};
 ghost use Rattle.rand_chacha.specs.ChaCha.{word_at};
 ghost use Rattle.vd_base.specs.Limits.{most_hosts, most_deal_items};
-ghost use Rattle.vd_deal_items.specs.Validity.{AreDeals, IsConsistent, peer_at};
+ghost use Rattle.vd_tape.specs.Validity.{AreDeals, IsConsistent, peer_at};
 ghost use Rattle.vd_tape.specs.Made.{AreCounts, made_deals, keyed_deals, keyed_deal, keyed_word, number_key, words_from, shared_stream, mul_parts, and_parts, pair_parts, part_of, mul_item, and_item, pair_item, first_of};
 ghost use Rattle.vd_tape.specs.Generator.{IsAt, stands_at, words_at, open_parts};
 
+use crate::deal_items::{Counts, Deal, Deals, PairItem, Triple, and_sides, mul_sides, pair_sides};
 use crate::reading::peer;
 use rand_chacha::ChaCha20Rng;
 use rand_core::SeedableRng;
 use rand_core::utils::NextWord;
 use std::alloc::{AllocError, Global};
-use vd_base::{HostId, Words};
-use vd_base_lists::Items;
-use vd_deal_items::{Counts, Deal, Deals, PairItem, Triple, and_sides, mul_sides, pair_sides};
+use vd_base::{HostId, Items, Words};
 
 /// The deals of all hosts that a number makes.
 pub fn make(alloc: Global, counts: Counts, number: u64) -> Result<Deals, AllocError>

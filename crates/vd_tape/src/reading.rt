@@ -3,16 +3,15 @@
 ghost use Rattle.std.specs.Prelude.{◌≡◌, ◌+◌, ◌-◌, ◌<◌, ◌≤◌};
 ghost use Rattle.vd_base.specs.Limits.{most_hosts};
 ghost use Rattle.vd_base_codec.specs.Reading.{Gives, GivesOrMemory, to_the_end, each_at};
-ghost use Rattle.vd_deal_items.specs.Validity.{peer_at};
+ghost use Rattle.vd_tape.specs.Validity.{peer_at};
 ghost use Rattle.vd_tape.specs.Reading.{list_at, heading_at, share_at, shares_at, deal_at};
 
+use crate::deal_items::{Deal, PairItem, Triple};
 use crate::item::Item;
 use std::alloc::Global;
-use vd_base::HostId;
 use vd_base::limits::DEAL_ITEMS;
+use vd_base::{HostId, Items};
 use vd_base_codec::{CodecFault, Cursor, Stopped};
-use vd_base_lists::Items;
-use vd_deal_items::{Deal, PairItem, Triple};
 
 /// What a host shares with one peer.
 #[derive(Drop)]

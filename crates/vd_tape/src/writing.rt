@@ -2,14 +2,14 @@
 
 ghost use Rattle.std.specs.Prelude.{◌≡◌, ◌<◌, ◌++◌, IfOk, OnOk};
 ghost use Rattle.vd_base_codec.specs.Reading.{field};
-ghost use Rattle.vd_deal_items.specs.Validity.{peer_at};
+ghost use Rattle.vd_tape.specs.Validity.{peer_at};
 ghost use Rattle.vd_tape.specs.Text.{list_text, share_text, shares_text, deal_text};
 
+use crate::deal_items::{Deal, PairItem, Triple};
 use crate::item::Item;
 use std::alloc::{AllocError, Global};
 use vd_base::Bytes;
 use vd_base_codec::push_field;
-use vd_deal_items::{Deal, PairItem, Triple};
 
 /// The one text of a deal.
 pub fn write_deal(alloc: Global, deal: &Deal) -> Result<Bytes, AllocError>

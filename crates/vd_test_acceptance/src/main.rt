@@ -7,12 +7,10 @@ ghost use Rattle.std.specs.Prelude.{◌≡◌, ◌≤◌, []};
 
 use std::alloc::Global;
 use std::io::{self, BufRead, BufReader, Write};
-use vd_base::Texts;
-use vd_base_lists::Items;
-use vd_channel_net::SealedNet;
+use vd_base::{Items, Texts};
+use vd_channel_link::SealedNet;
 use vd_fakes::Mark;
-use vd_outside::{Files, Net, Sink, Spawner, Stored};
-use vd_outside_marks::Marks;
+use vd_outside::{Files, Marks, Net, Sink, Spawner, Stored};
 use vd_test_examples::{Example, Objects, print_run};
 use vd_top::start;
 

@@ -6,8 +6,7 @@ use anyhow::{bail, ensure};
 use std::alloc::Global;
 use vd_base::HostId;
 use vd_base::limits::DEAL_ITEMS;
-use vd_deal_items::{Counts, Deal};
-use vd_tape::{make, read_deal, write_deal};
+use vd_tape::{Counts, Deal, make, read_deal, write_deal};
 
 /// Makes the deals of two hosts with so many own words and items of each kind, writes and reads them, and compares. Answers
 /// the bytes of both texts.
@@ -35,6 +34,10 @@ fn there_and_back(alloc: Global, deal: &Deal, me: u8) -> anyhow::Result<u64>
 {
     let text = write_deal(alloc, deal)?;
     let read = read_deal(alloc, text.as_slice(), 2, HostId(me))?;
-    ensure!(read == *deal, "the deal that was read is another");
+    let again = write_deal(alloc, &read)?;
+    ensure!(
+        again.as_slice() == text.as_slice(),
+        "the deal that was read is another"
+    );
     Ok(text.as_slice().len() as u64)
 }

@@ -2,15 +2,14 @@
 
 ghost use Rattle.std.specs.Prelude.{◌≡◌, ◌<◌, ◌∷◌, [], IfOk};
 ghost use Rattle.vd_test_bench.specs.Codes.{counting, speaker, listener, CanLoad};
-ghost use Rattle.vd_deal_items.specs.Validity.{IsDeal};
+ghost use Rattle.vd_tape.specs.Validity.{IsDeal};
 ghost use Rattle.vd_execution.specs.Text.{register};
 
 use std::alloc::{AllocError, Global};
-use vd_base::HostId;
-use vd_base_lists::Items;
-use vd_deal_items::Deal;
+use vd_base::{HostId, Items};
 use vd_execution::{Action, Binary, Instr, Reg};
 use vd_machine::Machine;
+use vd_tape::Deal;
 use vd_world::World;
 
 /// What a run made.

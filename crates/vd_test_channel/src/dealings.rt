@@ -1,7 +1,7 @@
 use crate::{counted, print};
 use std::io::{self, Write};
-use vd_deal_items::Counts;
-use vd_deal_keys::{dealing_id, items_key, link_key};
+use vd_channel_crypto::{dealing_id, items_key, link_key};
+use vd_tape::Counts;
 
 /// Prints what the bytes from 0 to 31 make for a dealing of four own words and two products to two hosts.
 pub(crate) fn print_all<W: Write>(to: &mut W) -> io::Result<()> {

@@ -4,8 +4,7 @@
 
 use std::alloc::{AllocError, Global};
 use std::io::{self, Write};
-use vd_base::{Bytes, Texts, Words};
-use vd_base_lists::Items;
+use vd_base::{Bytes, Items, Texts, Words};
 use vd_fakes::MemSpawner;
 use vd_host_children::{ChildrenFault, run_children};
 use vd_outside::{Child, Line};

@@ -5,8 +5,7 @@ use std::test::Fail;
 use vd_base::Bytes;
 use vd_base::limits::CERTIFICATE_BYTES;
 use vd_bound::first_bad_shift;
-use vd_search_certificate::Certificate;
-use vd_search_tree::Shift;
+use vd_search_tree::{Certificate, Shift};
 
 /// Of the comparison of two hosts' inputs.
 const FIRST_FORM: &[u8] = b"viaduct-cert 1\ncost 222\nEEVEVVVVVVELBBVVBBVVVVVVVVVVV\n";

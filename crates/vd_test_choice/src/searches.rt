@@ -5,10 +5,10 @@ ghost use Rattle.std.specs.Prelude.{◌≡◌, ◌<◌, IfOk, length};
 use crate::tree::Words;
 use std::alloc::{AllocError, Global};
 use std::test::Fail;
-use vd_base_lists::Items;
+use vd_base::Items;
 use vd_bound::{Proved, check_marks};
 use vd_search::{Answer, search};
-use vd_search_certificate::Mark;
+use vd_search_tree::Mark;
 
 /// Three bits.
 fn three_bits(alloc: Global) -> Result<Words, AllocError>

@@ -2,7 +2,7 @@
 
 use std::alloc::Global;
 use std::io::{self, Write};
-use vd_diag_place::excerpt;
+use vd_diag::excerpt;
 
 /// What is wrong, whether colours are wanted, bytes, and the offset that is pointed at.
 const ROWS: [(&str, bool, &[u8], usize); 3] = [

@@ -7,7 +7,7 @@ use vd_base::Bytes;
 use vd_cmd_labels::least_labels;
 use vd_core::Program;
 use vd_diag::{Remark, tell};
-use vd_diag_choice::{no_assignment_remark, search_sentence, space_for};
+use vd_diag_terminal::{no_assignment_remark, search_sentence, space_for};
 use vd_space_api::Space;
 
 /// The space of choices for a program that has labels.

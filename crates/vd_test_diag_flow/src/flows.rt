@@ -7,7 +7,7 @@ use vd_base::Bytes;
 use vd_cmd_labels::least_labels;
 use vd_cmd_plan::{FlowFault, Status};
 use vd_diag::tell;
-use vd_diag_flow::flow_remark;
+use vd_diag_terminal::flow_remark;
 
 /// Why a source has no labelling; nothing where it has one.
 fn fault_of(alloc: Global, source: &str) -> anyhow::Result<Option<FlowFault>> {

@@ -1,8 +1,7 @@
 use std::alloc::{AllocError, Global};
 use std::io::{self, Write};
 use std::rt::Files as Disk;
-use vd_base::Text;
-use vd_base_lists::Items;
+use vd_base::{Items, Text};
 use vd_edge::{KeptFiles, RealFiles, SystemDirectory, Wanted};
 use vd_outside::Files;
 

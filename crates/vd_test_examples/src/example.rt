@@ -5,9 +5,8 @@ ghost use Rattle.std.specs.Prelude.{◌≡◌, [], IfOk};
 use crate::outside::{Waiting, Writing, drawn_of, net_of, push_bytes, spawner_of};
 use std::alloc::{AllocError, Global};
 use std::mem;
-use vd_base::{Bytes, Texts};
-use vd_base_lists::Items;
-use vd_channel_net::SealedNet;
+use vd_base::{Bytes, Items, Texts};
+use vd_channel_link::SealedNet;
 use vd_fakes::{Mark, MemFiles, MemMarks, MemNet, MemSink, MemSpawner};
 use vd_outside::Stored;
 

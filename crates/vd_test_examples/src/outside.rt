@@ -3,8 +3,7 @@
 ghost use Rattle.std.specs.Prelude.{◌≡◌, [], IfOk};
 
 use std::alloc::{AllocError, Global};
-use vd_base::Bytes;
-use vd_base_lists::Items;
+use vd_base::{Bytes, Items};
 use vd_fakes::{MemLink, MemNet, MemSpawner};
 use vd_outside::{Child, Line};
 

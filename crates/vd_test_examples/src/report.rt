@@ -3,8 +3,7 @@
 use crate::example::Objects;
 use std::io::{self, Write};
 use vd_base::Texts;
-use vd_outside::{FilesCall, NetCall, SpawnerCall, Stored};
-use vd_outside_marks::MarksCall;
+use vd_outside::{FilesCall, MarksCall, NetCall, SpawnerCall, Stored};
 
 /// Prints bytes line by line: a line with its end behind `|`, a piece without an end behind `>`.
 fn print_lines<W: Write>(to: &mut W, bytes: &[u8]) -> io::Result<()> {

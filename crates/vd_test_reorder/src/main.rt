@@ -6,8 +6,7 @@
 
 use std::alloc::Global;
 use std::io::{BufRead, BufReader, Write};
-use vd_host_text::{HostProgram, print};
-use vd_hostcode::read;
+use vd_hostcode::{HostProgram, print, read};
 use vd_reorder::hasten_code;
 
 /// Prints a name, and the file of a program with its code hastened.

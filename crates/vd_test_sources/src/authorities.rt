@@ -5,8 +5,7 @@ ghost use Rattle.vd_base.specs.Holders.{HasHosts};
 
 use std::alloc::Global;
 use std::test::Fail;
-use vd_base::{HostId, HostSet, Proto};
-use vd_base_lists::Items;
+use vd_base::{HostId, HostSet, Items, Proto};
 use vd_formula::{Formula, Label};
 use vd_protocol::authority;
 
@@ -68,12 +67,8 @@ fn authorities_are_those_of_the_table(rt: HostRuntime) -> Result<(), Fail> {
     ];
     for (at, conf, integ) in table {
         let label = authority_of_three(alloc, at)?;
-        assert_eq!(rt; label.conf.minimal_sets(alloc)?.as_slice(), conf, "{at:?}");
-        assert_eq!(rt;
-            label.integ.minimal_sets(alloc)?.as_slice(),
-            integ,
-            "{at:?}"
-        );
+        assert_eq!(rt; label.conf.minimal_sets(alloc)?.as_slice(), conf);
+        assert_eq!(rt; label.integ.minimal_sets(alloc)?.as_slice(), integ);
     }
     Ok(())
 }

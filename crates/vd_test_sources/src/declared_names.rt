@@ -2,8 +2,7 @@
 
 use std::alloc::{AllocError, Global};
 use std::test::Fail;
-use vd_base::{Name, Span};
-use vd_base_lists::Items;
+use vd_base::{Items, Name, Span};
 use vd_core::{Host, Ident, Source, WrittenForm, WrittenLabel, has_names};
 
 fn ident(alloc: Global, name: &str) -> Result<Ident, AllocError> {

@@ -5,8 +5,7 @@
 
 use std::alloc::{AllocError, Global};
 use std::test::Fail;
-use vd_base::{Form, Names};
-use vd_base_lists::Items;
+use vd_base::{Form, Items, Names};
 use vd_formula::Formula;
 
 fn name(alloc: Global, text: &[u8]) -> Result<Form, AllocError> {

@@ -3,8 +3,7 @@
 use crate::forms::{form, formula, letters, over};
 use std::alloc::{AllocError, Global};
 use std::test::Fail;
-use vd_base::{Form, Name};
-use vd_base_lists::Items;
+use vd_base::{Form, Items, Name};
 use vd_formula::{FormFault, Formula};
 
 /// The numbers of the sets at which the formula is true.

@@ -2,8 +2,7 @@
 
 use std::alloc::{AllocError, Global};
 use std::test::Fail;
-use vd_base::{HostId, Inputs, Names, Op, Outputs, SlotId};
-use vd_base_lists::Items;
+use vd_base::{HostId, Inputs, Items, Names, Op, Outputs, SlotId};
 use vd_core::{NormalForm, Right, Stmt};
 use vd_semantics::clear_core;
 

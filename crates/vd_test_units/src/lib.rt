@@ -1,4 +1,4 @@
-//! Tests of lists, of objects in memory, of texts that are cut at each byte, and of the plans that a refused greeting tells, through
+//! Tests of lists, of texts that are cut at each byte, and of the plans that a refused greeting tells, through
 //! public calls.
 #![tactic(auto)]
 
@@ -6,7 +6,5 @@
 mod greetings;
 #[cfg(test)]
 mod lists;
-#[cfg(test)]
-mod outside;
 #[cfg(test)]
 mod texts;

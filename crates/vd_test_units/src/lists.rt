@@ -2,7 +2,7 @@
 
 use std::alloc::{AllocError, Global};
 use std::test::Fail;
-use vd_base_lists::{Boxed, Items};
+use vd_base::{Boxed, Items};
 
 /// A tree that reaches itself through both types.
 #[cycle(tree)]

@@ -2,8 +2,7 @@
 
 use std::alloc::{AllocError, Global};
 use std::test::Fail;
-use vd_base::{Bytes, FileFault, HostId, Names};
-use vd_base_lists::Items;
+use vd_base::{Bytes, FileFault, HostId, Items, Names};
 use vd_hostcode::{CodeFault, read};
 use vd_report::{Schedule, read_schedule};
 use vd_tape::read_deal;

@@ -3,7 +3,7 @@
 use crate::settings::Settings;
 use std::alloc::Global;
 use std::io::Write;
-use vd_base_lists::Items;
+use vd_base::Items;
 use vd_cost_network_prefix::{ArcTable, NetworkTables, PointTable};
 use vd_cost_network_tables::network_tables;
 use vd_space_api::Space;

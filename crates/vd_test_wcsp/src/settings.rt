@@ -3,11 +3,10 @@
 ghost use Rattle.vd_space.specs.WellFormed.{AreProtocols};
 
 use std::alloc::{AllocError, Global};
-use vd_base::Proto;
-use vd_base_lists::Items;
+use vd_base::{Items, Proto};
 use vd_cost_network_prefix::{NetworkTables, PointTable, SwitchTable};
 use vd_space::Problem;
-use vd_space_terms::candidates;
+use vd_space_tables::candidates;
 
 /// What a point costs at a setting where it cannot be, in parts.
 const NOTHING_LEFT: i64 = 256_000_000_000;

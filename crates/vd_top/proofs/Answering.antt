@@ -2,7 +2,7 @@
 use Rattle.std.proofs.Common.{◌≡◌, ℕ, true, IsTrue, List, ◌++◌, Option, Some, None, refl, sym, ap, ◌∙◌, subst}
 use Rattle.vd_outside.specs.Files.{Contents, FilesView}
 use Rattle.vd_outside.specs.Sink.{SinkView}
-use Rattle.vd_deal_items.specs.declared.deal.Counts.{Counts}
+use Rattle.vd_tape.specs.declared.deal_items.deal.Counts.{Counts}
 use Rattle.vd_cmd.specs.Commands.{KeepsLimits, form_of}
 use Rattle.vd_cmd.specs.declared.command.Command.{Command}
 use Rattle.vd_cmd.specs.declared.command.Command.TheVariants.{OnFiles}
@@ -14,10 +14,10 @@ use Rattle.vd_cmd_plan.specs.declared.answer.Answer.{Answer}
 use Rattle.vd_cmd_plan.specs.declared.status.Status.{Status}
 use Rattle.vd_cmd_plan.specs.declared.status.Status.TheVariants.{Ended}
 use Rattle.vd_cmd_deal.specs.Dealing.{deal_answer, deal_plan}
-use Rattle.vd_cmd_choice_laws.specs.Answers.{TellsChoice, TellsCompiled, TellsLabels, TellsProof}
-use Rattle.vd_cmd_choice_laws.proofs.Front.{choices_tell, compiled_tell, labels_tell, proofs_tell}
-use Rattle.vd_cmd_deal_laws.specs.Dealt.{TellsDeal}
-use Rattle.vd_cmd_deal_laws.proofs.Front.{deals_tell}
+use Rattle.vd_cmd_laws.specs.Answers.{TellsChoice, TellsCompiled, TellsLabels, TellsProof}
+use Rattle.vd_cmd_laws.proofs.Front.{choices_tell, compiled_tell, labels_tell, proofs_tell}
+use Rattle.vd_cmd_laws.specs.Dealt.{TellsDeal}
+use Rattle.vd_cmd_laws.proofs.Front.{deals_tell}
 use Rattle.vd_cmd_draw.proofs.Front.{drawings_tell}
 use Rattle.vd_cmd_hasten.proofs.Front.{hastens_tell}
 use Rattle.vd_cmd_hasten.specs.Telling.{TellsHastened}

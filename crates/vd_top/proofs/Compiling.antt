@@ -14,10 +14,10 @@ use Rattle.vd_cmd_plan.specs.declared.answer.Answer.{Answer}
 use Rattle.vd_cmd_plan.specs.declared.status.Status.{Status}
 use Rattle.vd_cmd_plan.specs.declared.status.Status.TheVariants.{Ended}
 use Rattle.vd_cmd.specs.Commands.{form_of}
-use Rattle.vd_cmd_compile_laws.proofs.Front.{programs_held}
+use Rattle.vd_cmd_laws.proofs.Front.{programs_held}
 use Rattle.vd_top.specs.Compiled.{KeepsStored, StoresForm, StoresOf}
 use Rattle.vd_top.specs.Headline.{KeepsExcuse, TellsOf}
-use Rattle.vd_cmd_choice_laws.proofs.Front.{ending_answered as answered, never}
+use Rattle.vd_cmd_laws.proofs.Front.{ending_answered as answered, never}
 
 module _ (plan : Contents → Plan) (before mid now : FilesView) (out_before out_now : SinkView) where
   compiled : (source prefix : List ℕ) (budget : ℕ) (came : Result Answer Status) (status : Status) → Executes true plan before mid came → Finishes came mid now out_before out_now status

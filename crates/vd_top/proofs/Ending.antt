@@ -17,9 +17,9 @@ use Rattle.vd_cmd_labels.proofs.Front.{some_texts}
 use Rattle.vd_cmd_choice.specs.Searching.{sure_search}
 use Rattle.vd_cmd_choice.proofs.Front.{some_certificates}
 use Rattle.vd_search_stages.proofs.Front.{some_choices}
-use Rattle.vd_cmd_programs.proofs.Front.{some_programs}
-use Rattle.vd_report_laws.proofs.Front.{some_outcomes as some_replays}
-use Rattle.vd_cmd_choice_laws.proofs.Front.{ended, never, printed}
+use Rattle.vd_cmd_plan.proofs.Front.{some_programs}
+use Rattle.vd_cmd_files.proofs.Front.{some_outcomes as some_replays}
+use Rattle.vd_cmd_laws.proofs.Front.{ended, never, printed}
 use Rattle.vd_cmd_replay.proofs.Front.{ends_well}
 use Rattle.vd_cmd_depends.proofs.Front.{some_dependences, some_influences}
 use Rattle.vd_top.specs.Commands.{CompletesForm, CompletesWords, Outcomes, RunsForm, plan_of, search_of}

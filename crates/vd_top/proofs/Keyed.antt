@@ -5,7 +5,7 @@ use Rattle.vd_base.specs.declared.faults.CallFault.{CallFault}
 use Rattle.vd_base.specs.declared.faults.CallFault.TheVariants as call_fault
 use Rattle.vd_outside.specs.Files.{Contents, FilesView}
 use Rattle.vd_outside.specs.Sink.{SinkView}
-use Rattle.vd_outside_marks.specs.Marks.{MarksView}
+use Rattle.vd_outside.specs.Marks.{MarksView}
 use Rattle.vd_cmd.specs.Commands.{KeepsLimits}
 use Rattle.vd_cmd.specs.declared.command.Command.{Command}
 use Rattle.vd_cmd.specs.declared.command.Command.TheVariants.{KeyDeal}
@@ -16,11 +16,11 @@ use Rattle.vd_cmd_plan.specs.Runs.{Runs}
 use Rattle.vd_cmd_plan.specs.declared.answer.Answer.{Answer}
 use Rattle.vd_cmd_plan.specs.declared.status.Status.{Status}
 use Rattle.vd_cmd_plan.specs.declared.status.Status.TheVariants.{Ended, Memory, ShortKey}
-use Rattle.vd_cmd_deal_keyed.specs.KeyDealing.{key_answer}
-use Rattle.vd_cmd_deal_keyed.specs.Sources.{FromDraw, FromFile, NoMemory, NotDrawn, RunsKeyDeal, bytes_plan, file_plan, key_in, not_drawn}
-use Rattle.vd_cmd_choice_laws.proofs.Front.{answered, check_came, ends_as, file_came}
-use Rattle.vd_cmd_deal_laws.specs.KeyedDealt.{TellsKeyed}
-use Rattle.vd_cmd_deal_laws.proofs.Front.{keyed_deals_tell}
+use Rattle.vd_cmd_deal.specs.KeyDealing.{key_answer}
+use Rattle.vd_cmd_deal.specs.Sources.{FromDraw, FromFile, NoMemory, NotDrawn, RunsKeyDeal, bytes_plan, file_plan, key_in, not_drawn}
+use Rattle.vd_cmd_laws.proofs.Front.{answered, check_came, ends_as, file_came}
+use Rattle.vd_cmd_laws.specs.KeyedDealt.{TellsKeyed}
+use Rattle.vd_cmd_laws.proofs.Front.{keyed_deals_tell}
 use Rattle.vd_top.specs.Answers.{AreWithinLimits, KeepsKeyed}
 use Rattle.vd_top.specs.Hosts.{KeysForm, KeysWords}
 use Rattle.vd_top.proofs.Words.{are_counts}

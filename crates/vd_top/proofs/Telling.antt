@@ -1,7 +1,7 @@
 -- What holds of a command holds of the words that are its form.
 use Rattle.std.proofs.Common.{◌≡◌, ℕ, List, [], Option, Some, None, Err, true, false, refl, sym, ap, subst, ◌∙◌, arith}
 use Rattle.vd_outside.specs.Files.{FilesView}
-use Rattle.vd_outside_marks.specs.Marks.{MarksView}
+use Rattle.vd_outside.specs.Marks.{MarksView}
 use Rattle.vd_outside.specs.Sink.{SinkView}
 use Rattle.vd_outside.specs.Spawner.{SpawnerView}
 use Rattle.vd_cmd.specs.Commands.{form_of}
@@ -19,7 +19,7 @@ use Rattle.vd_execution.specs.Joint.{Done}
 use Rattle.vd_cmd_compile_early.specs.Compiling.{early_plan}
 use Rattle.vd_cmd_host.specs.Hosts.{HostRuns, Marked, NetsView, NotLoaded, Plainly}
 use Rattle.vd_cmd_host.proofs.Front.{used_once}
-use Rattle.vd_cmd_deal_keyed.specs.Sources.{FromFile, NoMemory, RunsKeyDeal, file_plan}
+use Rattle.vd_cmd_deal.specs.Sources.{FromFile, NoMemory, RunsKeyDeal, file_plan}
 use Rattle.vd_cmd_host.specs.Loading.{OfProgram, files_of}
 use Rattle.vd_cmd_run.specs.Running.{Refused}
 use Rattle.vd_cmd_run.specs.RunsHosts.{outside}
@@ -33,7 +33,7 @@ use Rattle.vd_top.specs.Counts.{CountedForm, KeepsCount, counts_packets_by}
 use Rattle.vd_top.specs.Early.{EarlyForm}
 use Rattle.vd_top.specs.Headline.{KeepsTrial, KeepsDependence, KeepsHeadline, KeepsInfluence, KeepsNeeds, ShowsForm}
 use Rattle.vd_cmd_run.proofs.Front.{complete}
-use Rattle.vd_cmd_host_laws.proofs.Front.{plain_served, served}
+use Rattle.vd_cmd_host.proofs.Front.{plain_served, served}
 use Rattle.vd_top.specs.Hosts.{KeysForm, MarksForm, PlaysForm, ReportsForm, ServesForm, SpawnsForm, marks_by, speaks_by, spawns_by}
 
 -- what is shown by the form is what is said of the words

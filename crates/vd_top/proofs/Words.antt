@@ -1,7 +1,7 @@
 -- What the functions that pick outcomes are, and the plans of commands beside one another.
 use Rattle.std.proofs.Common.{inl, Bool, Result, Ok, Err, IfOk}
 use Rattle.vd_outside.specs.Files.{Contents}
-use Rattle.vd_deal_items.specs.declared.deal.Counts.{Counts}
+use Rattle.vd_tape.specs.declared.deal_items.deal.Counts.{Counts}
 use Rattle.vd_tape.specs.Made.{AreCounts}
 use Rattle.vd_cmd.specs.Commands.{AreWithin}
 use Rattle.vd_cmd.specs.declared.command.FilesCommand.{FilesCommand}
@@ -17,9 +17,9 @@ use Rattle.vd_cmd_choice.proofs.Front.{some_certificates}
 use Rattle.vd_cmd_choose.proofs.Front.{choose_follows}
 use Rattle.vd_cmd_compile.proofs.Front.{compile_follows}
 use Rattle.vd_cmd_draw.proofs.Front.{draw_follows}
-use Rattle.vd_cmd_programs.proofs.Front.{some_programs}
+use Rattle.vd_cmd_plan.proofs.Front.{some_programs}
 use Rattle.vd_cmd_needs.proofs.Front.{needs_follows}
-use Rattle.vd_report_laws.proofs.Front.{some_outcomes as some_replays}
+use Rattle.vd_cmd_files.proofs.Front.{some_outcomes as some_replays}
 use Rattle.vd_cmd_replay.proofs.Front.{replay_follows}
 use Rattle.vd_cmd_excuse.proofs.Front.{excuse_follows}
 use Rattle.vd_cmd_trial.proofs.Front.{trial_follows}

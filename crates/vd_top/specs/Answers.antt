@@ -2,7 +2,7 @@
 use Rattle.std.specs.Prelude.{◌≡◌, ℕ, IsTrue, List, ◌++◌, Some}
 use Rattle.vd_outside.specs.Files.{FilesView}
 use Rattle.vd_outside.specs.Sink.{SinkView}
-use Rattle.vd_deal_items.specs.declared.deal.Counts.{Counts}
+use Rattle.vd_tape.specs.declared.deal_items.deal.Counts.{Counts}
 use Rattle.vd_cmd.specs.Commands.{KeepsLimits, form_of}
 use Rattle.vd_cmd.specs.declared.command.Command.{Command}
 use Rattle.vd_cmd.specs.declared.command.Command.TheVariants.{KeyDeal, OnFiles}
@@ -10,9 +10,9 @@ use Rattle.vd_cmd.specs.declared.command.KeyDealWords.{KeyDealWords}
 use Rattle.vd_cmd.specs.declared.command.FilesCommand.TheVariants.{Certify, Choose, Compile, Deal, Draw, Hasten, Labels}
 use Rattle.vd_cmd_plan.specs.declared.status.Status.{Status}
 use Rattle.vd_cmd_plan.specs.declared.status.Status.TheVariants.{Ended}
-use Rattle.vd_cmd_choice_laws.specs.Answers.{TellsChoice, TellsCompiled, TellsLabels, TellsProof}
-use Rattle.vd_cmd_deal_laws.specs.Dealt.{TellsDeal}
-use Rattle.vd_cmd_deal_laws.specs.KeyedDealt.{TellsKeyed}
+use Rattle.vd_cmd_laws.specs.Answers.{TellsChoice, TellsCompiled, TellsLabels, TellsProof}
+use Rattle.vd_cmd_laws.specs.Dealt.{TellsDeal}
+use Rattle.vd_cmd_laws.specs.KeyedDealt.{TellsKeyed}
 use Rattle.vd_cmd_draw.specs.Telling.{TellsDrawing}
 use Rattle.vd_cmd_hasten.specs.Telling.{TellsHastened}
 

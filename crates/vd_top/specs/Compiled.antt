@@ -11,7 +11,7 @@ use Rattle.vd_cmd.specs.declared.command.FilesCommand.TheVariants.{Compile, Excu
 use Rattle.vd_cmd_plan.specs.Held.{IsHeld}
 use Rattle.vd_cmd_plan.specs.declared.status.Status.{Status}
 use Rattle.vd_cmd_plan.specs.declared.status.Status.TheVariants.{Ended}
-use Rattle.vd_cmd_compile_laws.specs.Holding.{IsCompilation}
+use Rattle.vd_cmd_laws.specs.Holding.{IsCompilation}
 use Rattle.vd_top.specs.Headline.{PrintsExcuse}
 
 -- The first file held the text of a source, and the file of each of its hosts now holds that host's program, at the choice that was

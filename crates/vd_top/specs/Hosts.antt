@@ -1,7 +1,7 @@
 -- The commands that run hosts: `host` runs one over a net, and `run` runs all of a source as children.
 use Rattle.std.specs.Prelude.{ℕ, Bool, true, false, List, Option, Some}
 use Rattle.vd_outside.specs.Files.{FilesView}
-use Rattle.vd_outside_marks.specs.Marks.{MarksView}
+use Rattle.vd_outside.specs.Marks.{MarksView}
 use Rattle.vd_outside.specs.Sink.{SinkView}
 use Rattle.vd_outside.specs.Spawner.{SpawnerView}
 use Rattle.vd_cmd.specs.Commands.{form_of}
@@ -10,11 +10,11 @@ use Rattle.vd_cmd.specs.declared.command.Command.TheVariants.{Host, KeyDeal, Run
 use Rattle.vd_cmd_plan.specs.declared.status.Status.{Status}
 use Rattle.vd_cmd_host.specs.Hosts.{HostRuns, NetsView}
 use Rattle.vd_cmd_host.specs.Once.{UsesOnce}
-use Rattle.vd_cmd_deal_keyed.specs.Sources.{RunsKeyDeal}
+use Rattle.vd_cmd_deal.specs.Sources.{RunsKeyDeal}
 use Rattle.vd_cmd_run.specs.Completing.{IsCompleteRun}
 use Rattle.vd_cmd_run.specs.Running.{Runs}
 use Rattle.vd_cmd_run.specs.RunsHosts.{outside}
-use Rattle.vd_cmd_host_laws.specs.Serving.{IsCompleteHost}
+use Rattle.vd_cmd_host.specs.Serving.{IsCompleteHost}
 
 -- ---- which commands use what
 

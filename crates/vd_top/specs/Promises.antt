@@ -1,7 +1,7 @@
 -- What is promised of the words of a command line.
 use Rattle.std.specs.Prelude.{◌≡◌, ℕ, List, Option, Some, None, false}
 use Rattle.vd_outside.specs.Files.{FilesView}
-use Rattle.vd_outside_marks.specs.Marks.{MarksView}
+use Rattle.vd_outside.specs.Marks.{MarksView}
 use Rattle.vd_outside.specs.Sink.{SinkView}
 use Rattle.vd_outside.specs.Spawner.{SpawnerView}
 use Rattle.vd_cmd_host.specs.Hosts.{NetsView}

@@ -5,7 +5,7 @@ use Rattle.vd_execution.specs.Registers.{put}
 use Rattle.vd_execution.specs.Step.{Source}
 use Rattle.vd_execution.specs.World.{Tape}
 use Rattle.vd_execution.specs.Joint.{Part, Joint, Done, Do, Msg, If, For, Host, Hosts, after_do, after_msg, is_other, turn_begun, turns, joint}
-use Rattle.vd_execution_confluence.proofs.Front.{part_keeps}
+use Rattle.vd_execution.proofs.Front.{part_keeps}
 use Rattle.vd_views.specs.Hiding.{TakenAlike}
 use Rattle.vd_views.proofs.Frames.{act_grows, act_frame}
 

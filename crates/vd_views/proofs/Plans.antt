@@ -10,11 +10,11 @@ use Rattle.vd_execution.specs.Deals.{IsValidDeal}
 use Rattle.vd_execution.specs.Joint.{Part, TakesPart, Joint, Host, Hosts, is_other, turn_begun, turns, joint, If, For, Done, AllTurns, IsTidy, IsSmooth}
 use Rattle.vd_execution.specs.Acts.{do_then, run_act, run_acts}
 use Rattle.vd_execution.proofs.Front.{runs_first, put_words, gadget_sound, plan_sound, plan_tidy}
-use Rattle.vd_execution_confluence.proofs.Front.{part_keeps}
+use Rattle.vd_execution.proofs.Front.{part_keeps}
 use Rattle.vd_views.specs.Views.{LooksAlike, BothTurns, TellsAlike, ActsTellAlike}
 use Rattle.vd_execution.specs.Gadgets.{Gadget, acts_of_gadget, IsSound}
 use Rattle.vd_execution.specs.Plans.{Plan, Ends, Then, Branch, Loop, joint_of, PlanIsTidy}
-use Rattle.vd_execution_confluence.specs.Claims.{KeepsSound}
+use Rattle.vd_execution.specs.Claims.{KeepsSound}
 use Rattle.vd_views.specs.Hiding.{GadgetHides, TakenAlike, IsAnotherDeal}
 use Rattle.vd_views.specs.Plans.{run_branch, run_turn, PlanHides, PlanKnows, PlanChooses}
 use Rattle.vd_views.specs.Hides.{Hides}

@@ -7,3 +7,14 @@ pub mod Excused
 pub mod Back
 pub mod Contract
 pub mod Claims
+pub mod Product
+pub mod Example
+pub mod Sides
+pub mod Explained
+pub mod PairUp
+pub mod AnyOrder
+pub mod Promise
+pub mod Lengths
+pub mod ViewsProgramsExample
+pub mod Files
+pub mod ReadOff

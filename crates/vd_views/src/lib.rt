@@ -58,3 +58,18 @@ pub fn the_way_back()
 pub fn worked_item()
     ensures { item_for BySums (1 ∷ 4 ∷ 5 ∷ []) (2 ∷ 0 ∷ 7 ∷ []) 10 2147483658 1 1 ≡ 2147483649 ∷ 4 ∷ 5 ∷ [] }
 {}
+
+mod equivocation_pairs;
+mod views_backends;
+mod views_deals;
+mod views_products;
+mod views_programs;
+
+pub use equivocation_pairs::pairs_are_read_off;
+pub use views_backends::quiet_gadgets_tell_the_same;
+pub use views_deals::deal_files_belong_to_each_other;
+pub use views_products::{a_product_can_be_excused, worked_product};
+pub use views_programs::{
+    any_order_looks_alike, deals_belong_to_each_other, other_inputs_have_an_excuse,
+    what_may_not_be_read_stays_open, worked_excuse,
+};

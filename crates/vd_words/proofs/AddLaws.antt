@@ -14,7 +14,7 @@ use Rattle.vd_execution.specs.Gadgets.{BySums}
 use Rattle.vd_duet.specs.Calls.{Places}
 use Rattle.vd_duet.specs.Acting.{acts_at, apply_at, ActsWhereItSays}
 use Rattle.vd_duet.specs.Laws.{IsInOne, GivesWord, Operands, IsReady, NumberFits, BackendLaws}
-use Rattle.vd_backend_algebra.proofs.Front.{word_product, scale_each}
+use Rattle.vd_backend_sharing.proofs.Front.{word_product, scale_each}
 use Rattle.vd_backend_sharing.specs.PairCalls.{operand, at_hosts}
 use Rattle.vd_backend_sharing.proofs.Front.{first_operand, second_operand, ItemsMultiply, applied_gives, numbered_gives, product_gives, pair_laws, applied_acts, numbered_acts, product_acts, pair_acts}
 use Rattle.vd_words.specs.AddCalls.{add_serves, add_apply, add_calls}

@@ -8,8 +8,7 @@ ghost use Rattle.vd_words.specs.AddCalls.{add_calls};
 
 use std::alloc::{AllocError, Global};
 use vd_backend_sharing::{Pair, Shares, Sharing};
-use vd_base::{HostId, Op, Proto};
-use vd_base_lists::Items;
+use vd_base::{HostId, Items, Op, Proto};
 use vd_duet::{Args, Backend, Clear, Duet, Parts};
 use vd_execution::{Binary, Reg};
 

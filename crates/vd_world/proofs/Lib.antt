@@ -8,3 +8,9 @@ mod Worlds
 mod Rounds
 mod Starting
 mod Quieter
+mod Shared
+mod Supplies
+mod Loaded
+mod Runs
+mod Told
+mod Lists

@@ -7,7 +7,7 @@ use Rattle.vd_execution.specs.Schedule.{after}
 use Rattle.vd_execution.specs.Step.{State, need, need_of, next}
 use Rattle.vd_execution.specs.World.{Local, World, Supply, EndedFrom, given, step, with_answer, done, left}
 use Rattle.vd_execution.proofs.Front.{put_same, put_other, same_or_not}
-use Rattle.vd_execution_confluence.proofs.Front.{step_falls}
+use Rattle.vd_execution.proofs.Front.{step_falls}
 use Rattle.vd_machine.specs.declared.lists.Lists.{Lists}
 use Rattle.vd_machine.specs.Kept.{state_of}
 use Rattle.vd_machine.specs.Machines.{items_of, words_for}

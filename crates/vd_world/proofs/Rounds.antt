@@ -4,8 +4,8 @@ use Rattle.std.specs.Prelude.{Option, None, if◌then◌else◌}
 use Rattle.std.proofs.lemmas.Option.{slice_get_past}
 use Rattle.vd_execution.specs.Schedule.{after}
 use Rattle.vd_execution.specs.World.{World, Supply, EndedFrom, step, run, left, IsStuck, all_rounds}
-use Rattle.vd_execution_confluence.specs.Claims.{then_all}
-use Rattle.vd_execution_confluence.proofs.Front.{one_end, diamond, all_stuck, run_both}
+use Rattle.vd_execution.specs.Claims.{then_all}
+use Rattle.vd_execution.proofs.Front.{one_end, diamond, all_stuck, run_both}
 use Rattle.vd_world.specs.Hosts.{HostKept, local_or_nobody, world_of, supply_of, Reaches}
 use Rattle.vd_world.proofs.Worlds.{absent}
 

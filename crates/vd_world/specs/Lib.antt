@@ -2,3 +2,9 @@ pub mod Links
 pub mod Hosts
 pub mod Hears
 pub mod Packets
+pub mod Supplies
+pub mod Schedules
+pub mod Reports
+pub mod Loading
+pub mod Told
+pub mod Played

@@ -6,7 +6,7 @@ ghost use Rattle.vd_execution.specs.World.{words_of, IsStuck};
 ghost use Rattle.vd_world.specs.Hosts.{world_of, supply_of, turned, can_step, steps_left, stuck_state, Reaches};
 ghost use Rattle.vd_world.specs.Hosts.{AreMachines, hosts_at_start};
 ghost use Rattle.vd_world.specs.Packets.{counted, packets_of, sent_by};
-ghost use Rattle.vd_execution_confluence.specs.Claims.{then_all};
+ghost use Rattle.vd_execution.specs.Claims.{then_all};
 
 use crate::heard::{Turn, heard};
 use crate::host::Host;

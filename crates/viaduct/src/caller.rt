@@ -7,10 +7,10 @@ ghost use Rattle.viaduct.specs.Telling.{IsTold, TellsPackets, TellsReasons, faul
 use crate::program::{Ending, words_of};
 use std::alloc::{AllocError, Global};
 use vd_base::{Bytes, Texts};
-use vd_cmd_driver::{Reasons, tell_fault, tell_no_text, tell_success};
 use vd_cmd_plan::Status;
 use vd_diag_terminal::Destination;
 use vd_outside::Sink;
+use vd_cmd_driver::{Reasons, tell_fault, tell_no_text, tell_success};
 
 /// What is asked of the program, and by whom.
 #[derive(Drop)]

@@ -16,13 +16,13 @@ use std::os::unix::process::parent_id;
 use std::process::ExitCode;
 use std::{env, fs, io, process};
 use vd_base::{Bytes, Texts};
-use vd_channel_net::SealedNet;
-use vd_cmd_driver::{Reasons, copy_reason, copy_text, speaker_of};
+use vd_channel_link::SealedNet;
 use vd_cmd_plan::Status;
 use vd_diag_terminal::Destination;
 use vd_edge::{KeptFiles, RealFiles, RealNet, RealSink, SystemDirectory, SystemSockets, Waits};
 use vd_edge_marks::RealMarks;
 use vd_edge_processes::{PARENT, REASONS, RealSpawner};
+use vd_cmd_driver::{Reasons, copy_reason, copy_text, speaker_of};
 
 /// The arguments of the program, and none where one of them is no text.
 fn arguments(rt: &(impl Env + AllocGlobal)) -> io::Result<Option<Vec<String>>> {

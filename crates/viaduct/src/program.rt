@@ -10,13 +10,12 @@ ghost use Rattle.viaduct.specs.Program.{IsRun, RunsOver};
 use std::alloc::{AllocError, Global};
 use std::process::ExitCode;
 use vd_base::Texts;
-use vd_channel_net::SealedNet;
-use vd_cmd_driver::read_ahead;
+use vd_channel_link::SealedNet;
 use vd_cmd_plan::{Status, tell};
 use vd_diag_terminal::{Destination, say_more};
 use vd_edge::{Directory, KeptFiles, RealFiles};
-use vd_outside::{Files, Net, Sink, Spawner};
-use vd_outside_marks::Marks;
+use vd_outside::{Files, Marks, Net, Sink, Spawner};
+use vd_cmd_driver::read_ahead;
 use vd_top::start;
 
 /// Copies of texts.

@@ -1,5 +1,5 @@
 use Rattle.std.proofs.Common.{◌+◌, [], ◌∷◌}
-use Rattle.vd_backend_algebra.specs.Gates.{doubling}
+use Rattle.vd_backend_sharing.specs.Gates.{doubling}
 use Rattle.vd_bits.specs.declared.gates.Gate.TheVariants as gate
 use Rattle.vd_bits.proofs.Lists.{six_pieces}
 use Rattle.vd_bits.proofs.circuits.carrying.Goals as goal

@@ -1,5 +1,5 @@
 use Rattle.std.proofs.Common.{◌+◌, [], ◌∷◌}
-use Rattle.vd_backend_algebra.specs.Gates.{adding}
+use Rattle.vd_backend_sharing.specs.Gates.{adding}
 use Rattle.vd_bits.specs.declared.gates.Gate.TheVariants as gate
 use Rattle.vd_bits.proofs.Lists.{three_pieces}
 use Rattle.vd_bits.proofs.circuits.subtracting.Goals as goal

@@ -1,6 +1,6 @@
 use Rattle.std.proofs.Common.{◌≡◌, ◌+◌}
 use Rattle.std.specs.Prelude.{slice_index}
-use Rattle.vd_reorder_laws.specs.Testing.{row}
+use Rattle.vd_reorder.specs.ReorderLawsTesting.{row}
 use Rattle.vd_choreography_reorder.specs.Depths.{noted}
 use Rattle.vd_choreography_reorder.proofs.depths.note_row.Given as goal
 

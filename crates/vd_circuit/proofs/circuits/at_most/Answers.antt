@@ -1,5 +1,5 @@
 use Rattle.std.proofs.Common.{List, [], ◌∷◌, ◌++◌, sym, ap, ◌∙◌}
-use Rattle.vd_backend_algebra.specs.Gates.{Gate, comparing}
+use Rattle.vd_backend_sharing.specs.Gates.{Gate, comparing}
 use Rattle.vd_bits.specs.declared.gates.Gate.TheVariants as gate
 use Rattle.vd_bits.specs.BitCalls.{gates_in}
 use Rattle.vd_bits.proofs.Front.{on}

@@ -1,5 +1,5 @@
 use Rattle.std.proofs.Common.{List, ◌++◌, ap, ◌∙◌}
-use Rattle.vd_backend_algebra.specs.Gates.{gates_of}
+use Rattle.vd_backend_sharing.specs.Gates.{gates_of}
 use Rattle.vd_bits.specs.declared.gates.Gate.{Gate}
 use Rattle.vd_bits.specs.BitCalls.{gates_in}
 use Rattle.vd_circuit.proofs.Tables.{short}

@@ -1,5 +1,5 @@
 use Rattle.std.proofs.Common.{◌+◌, [], ◌∷◌}
-use Rattle.vd_backend_algebra.specs.Gates.{narrowing}
+use Rattle.vd_backend_sharing.specs.Gates.{narrowing}
 use Rattle.vd_bits.specs.declared.gates.Gate.TheVariants as gate
 use Rattle.vd_circuit.proofs.Pieces.{seven_pieces}
 use Rattle.vd_circuit.proofs.circuits.equating.Goals as goal

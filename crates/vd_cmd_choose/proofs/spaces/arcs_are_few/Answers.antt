@@ -1,4 +1,4 @@
-use Rattle.vd_cost_network.proofs.Front.{few_arcs}
+use Rattle.vd_space.proofs.Front.{few_arcs}
 use Rattle.vd_space.proofs.Front.{is_labelled}
 use Rattle.vd_cmd_choose.proofs.spaces.arcs_are_few.Goals as goal
 

@@ -1,6 +1,6 @@
 use Rattle.std.proofs.Common.{◌<◌, length, subst, sym}
 use Rattle.std.proofs.lemmas.Result.{err_from_is_err_and}
-use Rattle.vd_cost_network.specs.Arcs.{arcs}
+use Rattle.vd_space.specs.Arcs.{arcs}
 use Rattle.vd_space.specs.declared.problem.Problem.{Problem}
 use Rattle.vd_space.proofs.Front.{has_labels}
 use Rattle.vd_cmd_choose.proofs.Statuses.{problem_refusal}

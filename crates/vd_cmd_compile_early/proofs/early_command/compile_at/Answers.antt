@@ -2,7 +2,7 @@ use Rattle.std.proofs.Common.{List, rules, subst}
 use Rattle.vd_base.specs.declared.protocols.Proto.{Proto}
 use Rattle.vd_execution.specs.Joint.{Done}
 use Rattle.vd_cmd_compile.proofs.Front.{can_run}
-use Rattle.vd_projection_reordered.specs.Early.{AreEarlyCodes}
+use Rattle.vd_projection.specs.Early.{AreEarlyCodes}
 use Rattle.vd_cmd_compile_early.proofs.Compiled.{answered, few_codes}
 use Rattle.vd_cmd_compile_early.proofs.Telling.{programs_stored}
 use Rattle.vd_cmd_compile_early.proofs.early_command.compile_at.Goals as goal

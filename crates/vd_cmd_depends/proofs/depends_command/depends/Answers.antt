@@ -1,5 +1,5 @@
 use Rattle.std.proofs.lemmas.Result.{err_from_is_err_and}
-use Rattle.vd_anf.specs.Normal.{normal_form}
+use Rattle.vd_elaborate.specs.Normal.{normal_form}
 use Rattle.vd_cmd_rewrite.specs.RunPrograms.{run_form}
 use Rattle.vd_cmd_depends.specs.Depending.{program_plan}
 use Rattle.vd_cmd_depends.proofs.Told.{dependence_told}

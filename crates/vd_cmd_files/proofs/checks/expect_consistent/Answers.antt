@@ -1,5 +1,5 @@
 use Rattle.std.proofs.Common.{None, Some, ap}
-use Rattle.vd_report_laws.proofs.Front.{judged_once}
+use Rattle.vd_cmd_files.proofs.Judged.{judged_once}
 use Rattle.vd_cmd_files.specs.Deals.{as_consistent}
 use Rattle.vd_cmd_files.proofs.checks.expect_consistent.Goals as goal
 

@@ -2,7 +2,7 @@ use Rattle.std.proofs.Common.{ℕ, List, codes, ap, ◌∙◌}
 use Rattle.std.proofs.lemmas.Result.{err_from_is_err_and}
 use Rattle.vd_cmd_plan.specs.Numbered.{file_name}
 use Rattle.vd_base.specs.Limits.{most_deal_bytes}
-use Rattle.vd_deal_items.specs.declared.deal.Deal.{Deal}
+use Rattle.vd_tape.specs.declared.deal_items.deal.Deal.{Deal}
 use Rattle.vd_deal_versions.specs.Plain.{IsDealIn}
 use Rattle.vd_cmd_files.proofs.Reading.{deal_err, deal_ok, found}
 use Rattle.vd_cmd_files.proofs.deals.load_deal.Goals as goal

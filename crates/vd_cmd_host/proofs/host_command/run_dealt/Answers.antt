@@ -1,6 +1,6 @@
 use Rattle.std.proofs.Common.{◌≡◌, Some, refl, ap}
-use Rattle.vd_channel_net.specs.Ledgers.{has_sent}
-use Rattle.vd_channel_net.specs.declared.ledger.Ledger.{Ledger}
+use Rattle.vd_channel_link.specs.Ledgers.{has_sent}
+use Rattle.vd_channel_link.specs.declared.channel_net.ledger.Ledger.{Ledger}
 use Rattle.vd_cmd_host.specs.Hosts.{Marked, Plainly, nets_of}
 use Rattle.vd_cmd_host.proofs.Ends.{not_begun}
 use Rattle.vd_cmd_host.proofs.host_command.run_dealt.Goals as goal

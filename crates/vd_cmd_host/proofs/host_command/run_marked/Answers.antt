@@ -1,7 +1,7 @@
 use Rattle.std.proofs.Common.{◌≡◌, refl, subst}
 use Rattle.vd_outside.specs.Net.{NetView}
-use Rattle.vd_channel_net.specs.Ledgers.{has_sent}
-use Rattle.vd_channel_net.specs.Views.{sealing}
+use Rattle.vd_channel_link.specs.Ledgers.{has_sent}
+use Rattle.vd_channel_link.specs.Views.{sealing}
 use Rattle.vd_cmd_host.specs.Hosts.{NotMarked, RunsLoaded, nets_of}
 use Rattle.vd_cmd_host.specs.Marking.{Leaves}
 use Rattle.vd_cmd_host.proofs.Ends.{is_sealed, ran_marked}

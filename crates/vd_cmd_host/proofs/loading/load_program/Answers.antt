@@ -1,7 +1,7 @@
 use Rattle.std.proofs.lemmas.Result.{err_from_is_err_and}
 use Rattle.vd_base.specs.Limits.{most_host_file_bytes}
-use Rattle.vd_host_text.specs.declared.program.HostProgram.{HostProgram}
-use Rattle.vd_cmd_programs.specs.Programs.{IsProgramEnd}
+use Rattle.vd_hostcode.specs.declared.host_text.program.HostProgram.{HostProgram}
+use Rattle.vd_cmd_plan.specs.Programs.{IsProgramEnd}
 use Rattle.vd_cmd_host.specs.Loading.{IsProgramOf}
 use Rattle.vd_cmd_host.proofs.Files.{not_fetched}
 use Rattle.vd_cmd_host.proofs.Loadings.{program_file, program_is_read}

@@ -3,7 +3,7 @@ use Rattle.std.proofs.lemmas.Result.{err_from_is_err_and}
 use Rattle.vd_cmd_plan.specs.Plans.{answer_then, ended}
 use Rattle.vd_cmd_plan.proofs.Front.{answers, check_step}
 use Rattle.vd_cmd_needs.specs.Lines.{program_lines}
-use Rattle.vd_cmd_programs.specs.Programs.{program_in}
+use Rattle.vd_cmd_plan.specs.Programs.{program_in}
 use Rattle.vd_cmd_needs.proofs.Told.{host_told}
 use Rattle.vd_cmd_needs.proofs.program.needs_in_host.Goals as goal
 

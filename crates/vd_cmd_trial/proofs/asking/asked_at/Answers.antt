@@ -4,7 +4,7 @@ use Rattle.vd_base.specs.Limits.{most_deal_items, most_hosts}
 use Rattle.vd_deal_needs.specs.declared.taking.HostNeeds.{HostNeeds}
 use Rattle.vd_deal_needs.specs.Sizes.{sizes_of}
 use Rattle.vd_tape.specs.Made.{AreCounts}
-use Rattle.vd_deal_needs_programs.specs.Enough.{needs_for}
+use Rattle.vd_deal_needs.specs.Enough.{needs_for}
 use Rattle.vd_cmd_compile.proofs.Front.{can_run}
 use Rattle.vd_cmd_trial.proofs.Enough.{asked_there, can_be_dealt, inputs_few, made_there, splits, suffice_there}
 use Rattle.vd_cmd_trial.specs.Trial.{most_inputs}

@@ -1,5 +1,5 @@
 use Rattle.std.proofs.Common.{true, false, sym, ap, ap₂, ◌∙◌, subst, arith}
-use Rattle.vd_deal_items.specs.declared.deal.Counts.{Counts}
+use Rattle.vd_tape.specs.declared.deal_items.deal.Counts.{Counts}
 use Rattle.vd_tape.specs.Made.{AreCounts, made_deals}
 use Rattle.vd_cmd_trial.specs.Trial.{trial_inputs}
 use Rattle.vd_cmd_trial.proofs.Given.{asked_again}

@@ -3,7 +3,7 @@ use Rattle.std.proofs.lemmas.Result.{err_from_is_err_and}
 use Rattle.vd_base.specs.Limits.{most_source_bytes}
 use Rattle.vd_cmd_plan.proofs.Front.{any_memory}
 use Rattle.vd_cmd_choice.specs.Searching.{GaveUp, searched_by}
-use Rattle.vd_cmd_trial_laws.proofs.Front.{short_source}
+use Rattle.vd_cmd_choose.proofs.Front.{short_source}
 use Rattle.vd_cmd_trial.proofs.Ends.{ends}
 use Rattle.vd_cmd_trial.proofs.Texts.{rules_refused, source_runs, tree_refused}
 use Rattle.vd_cmd_trial.proofs.Told.{few_executed, trial_told}

@@ -3,7 +3,7 @@ use Rattle.std.proofs.lemmas.Result.{err_from_is_err_and}
 use Rattle.vd_base.specs.Limits.{most_search_budget}
 use Rattle.vd_core.specs.declared.normal.NormalForm.{NormalForm}
 use Rattle.vd_core.specs.Facts.{weight_sum}
-use Rattle.vd_deal_needs_limits.specs.Items.{most_executed}
+use Rattle.vd_deal_needs.specs.Items.{most_executed}
 use Rattle.vd_cmd_plan.specs.Labelled.{labelled_form}
 use Rattle.vd_cmd_plan.specs.Plans.{ended}
 use Rattle.vd_cmd_plan.proofs.Front.{answers}

@@ -4,7 +4,7 @@ use Rattle.vd_core.specs.declared.normal.NormalForm.{NormalForm}
 use Rattle.vd_core.specs.Facts.{weight_sum}
 use Rattle.vd_cmd_plan.proofs.Front.{any_memory}
 use Rattle.vd_cmd_choice.specs.Searching.{GaveUp}
-use Rattle.vd_deal_needs_limits.specs.Items.{most_executed}
+use Rattle.vd_deal_needs.specs.Items.{most_executed}
 use Rattle.vd_cmd_trial.specs.Trial.{ExecutesProgram}
 use Rattle.vd_cmd_trial.proofs.Told.{source_told}
 use Rattle.vd_cmd_trial.proofs.trial_command.trial_source.Goals as goal

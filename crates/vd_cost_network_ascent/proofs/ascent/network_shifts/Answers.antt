@@ -1,6 +1,6 @@
 use Rattle.std.proofs.Common.{ap, ◌∙◌, length, arith}
 use Rattle.vd_space.proofs.Front.{few_in}
-use Rattle.vd_cost_network_shifts.proofs.Front.{of_problem}
+use Rattle.vd_cost_network_ascent.proofs.Making.{of_problem}
 use Rattle.vd_cost_network_ascent.proofs.ascent.network_shifts.Goals as goal
 
 pub shifts_of-requires : goal.shifts_of-requires

@@ -3,8 +3,8 @@ use Rattle.vd_base.specs.declared.ids.HostId.{HostId}
 use Rattle.vd_space_prefix.specs.Transfers.{by_place}
 use Rattle.vd_space_prefix.proofs.Front.{grows}
 use Rattle.vd_space.specs.declared.problem.Guard.{Guard}
-use Rattle.vd_cost_network.specs.Points.{switch_of}
-use Rattle.vd_cost_network.specs.Arcs.{switch_value}
+use Rattle.vd_space.specs.Points.{switch_of}
+use Rattle.vd_space.specs.Arcs.{switch_value}
 use Rattle.vd_cost_network_prefix.specs.States.{count_of_points}
 use Rattle.vd_cost_network_tables.proofs.Front.{named_guard, named_inside, switch_at, switches_size}
 use Rattle.vd_cost_network_bound.specs.Bounds.{values_at}

@@ -1,5 +1,5 @@
 use Rattle.std.proofs.Common.{◌≡◌, ℕ, ◌<◌, None, length, get_or}
-use Rattle.vd_cost_network.specs.Points.{decided}
+use Rattle.vd_space.specs.Points.{decided}
 use Rattle.vd_cost_network_prefix.specs.States.{count_of_points}
 use Rattle.vd_cost_network_prefix.proofs.states.decide.Given as goal
 

@@ -1,6 +1,6 @@
 use Rattle.std.proofs.Common.{◌≡◌, map, take}
 use Rattle.vd_space.specs.Costs.{weigh}
-use Rattle.vd_cost_network.specs.Arcs.{parts}
+use Rattle.vd_space.specs.Arcs.{parts}
 use Rattle.vd_cost_network_tables.proofs.arcs.scaled_row.Given as goal
 
 abbrev pub invariant-loop-price : goal.invariant-loop-price

@@ -1,8 +1,8 @@
 use Rattle.std.proofs.Common.{◌≤◌, [], None, Option, ℕ, List, map, get_or, sym, ap, ◌∙◌, subst}
 use Rattle.std.specs.Prelude.{unwrap_or}
 use Rattle.vd_space.specs.Costs.{weigh}
-use Rattle.vd_space_terms.proofs.Front.{get_or_any, mapped}
-use Rattle.vd_cost_network.specs.Arcs.{parts}
+use Rattle.vd_space_tables.proofs.Front.{get_or_any, mapped}
+use Rattle.vd_space.specs.Arcs.{parts}
 use Rattle.vd_cost_network_tables.proofs.arcs.scaled_table.Goals as goal
 
 pub scaled_row-requires-clause-prices : goal.scaled_row-requires-clause-prices

@@ -4,9 +4,9 @@ use Rattle.std.proofs.lemmas.List.{length-map, take_all}
 use Rattle.vd_space.specs.Costs.{Pair, total}
 use Rattle.vd_space_prefix.specs.Transfers.{IsWithin, by_place}
 use Rattle.vd_space_prefix.proofs.Front.{size_by_place}
-use Rattle.vd_space_terms.proofs.Front.{mapped}
-use Rattle.vd_cost_network.specs.Arcs.{arcs}
-use Rattle.vd_cost_network.specs.Network.{network_pairs}
+use Rattle.vd_space_tables.proofs.Front.{mapped}
+use Rattle.vd_space.specs.Arcs.{arcs}
+use Rattle.vd_space.specs.Network.{network_pairs}
 use Rattle.vd_cost_network_prefix.specs.States.{AreSmallArcs}
 use Rattle.vd_cost_network_prefix.proofs.Front.{pairs_size}
 use Rattle.vd_cost_network_tables.specs.declared.sums.Rows.TheVariants.{Firsts, Seconds}

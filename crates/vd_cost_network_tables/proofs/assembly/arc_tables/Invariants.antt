@@ -1,6 +1,6 @@
 use Rattle.std.proofs.Common.{◌≡◌, map, take}
-use Rattle.vd_cost_network.specs.Arcs.{arcs}
-use Rattle.vd_cost_network.specs.Network.{network_pairs}
+use Rattle.vd_space.specs.Arcs.{arcs}
+use Rattle.vd_space.specs.Network.{network_pairs}
 use Rattle.vd_cost_network_tables.specs.Tables.{arc_table}
 use Rattle.vd_cost_network_tables.proofs.assembly.arc_tables.Given as goal
 

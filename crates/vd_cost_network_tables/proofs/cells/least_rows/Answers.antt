@@ -1,5 +1,5 @@
 use Rattle.std.proofs.Common.{ap, ◌∙◌}
-use Rattle.vd_space_terms.proofs.Front.{mapped}
+use Rattle.vd_space_tables.proofs.Front.{mapped}
 use Rattle.vd_cost_network_tables.specs.Tables.{least_row}
 use Rattle.vd_cost_network_tables.proofs.cells.least_rows.Goals as goal
 

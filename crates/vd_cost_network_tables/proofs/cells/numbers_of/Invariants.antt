@@ -1,6 +1,6 @@
 use Rattle.std.proofs.Common.{◌≡◌, map, take}
 use Rattle.std.specs.Prelude.{unwrap_or}
-use Rattle.vd_cost_network.specs.Network.{no_parts_left}
+use Rattle.vd_space.specs.Network.{no_parts_left}
 use Rattle.vd_cost_network_tables.proofs.cells.numbers_of.Given as goal
 
 abbrev pub invariant-loop-value : goal.invariant-loop-value

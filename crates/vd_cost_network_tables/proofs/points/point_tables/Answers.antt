@@ -4,7 +4,7 @@ use Rattle.vd_space_prefix.specs.Transfers.{by_place}
 use Rattle.vd_space_prefix.proofs.Front.{size_by_place}
 use Rattle.vd_cost_network_prefix.specs.States.{AreSmallPoints, count_of_points}
 use Rattle.vd_cost_network_tables.specs.declared.sums.Rows.TheVariants.{Points}
-use Rattle.vd_space_terms.specs.Sums.{AreSmallSums}
+use Rattle.vd_space_tables.specs.Sums.{AreSmallSums}
 use Rattle.vd_cost_network_tables.specs.Sums.{part, sums_of}
 use Rattle.vd_cost_network_tables.specs.Tables.{table_by, tests_of}
 use Rattle.vd_cost_network_tables.proofs.Assembling.{few_points}

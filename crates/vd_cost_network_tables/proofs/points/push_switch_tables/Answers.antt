@@ -3,7 +3,7 @@ use Rattle.vd_space_prefix.specs.Transfers.{by_place}
 use Rattle.vd_space_prefix.proofs.Front.{grows}
 use Rattle.vd_space.specs.declared.problem.Guard.{Guard}
 use Rattle.vd_base.specs.declared.ids.HostId.{HostId}
-use Rattle.vd_cost_network.specs.Points.{switch_of}
+use Rattle.vd_space.specs.Points.{switch_of}
 use Rattle.vd_cost_network_prefix.specs.States.{count_of_points}
 use Rattle.vd_cost_network_tables.specs.Tables.{table_by, table_of_values, switch_values}
 use Rattle.vd_cost_network_tables.proofs.Pointing.{line_small, named_guard, named_inside, row_found, switch_item}

@@ -3,7 +3,7 @@ use Rattle.std.proofs.lemmas.Int.{to_z-of_z}
 use Rattle.vd_space.specs.Bounds.{only_if}
 use Rattle.vd_space.proofs.Front.{few_slice}
 use Rattle.vd_space_prefix.proofs.Front.{grows}
-use Rattle.vd_cost_network.specs.Arcs.{parts}
+use Rattle.vd_space.specs.Arcs.{parts}
 use Rattle.vd_cost_network_tables.specs.Tables.{own_value}
 use Rattle.vd_cost_network_tables.proofs.points.slot_costs.Goals as goal
 

@@ -7,7 +7,7 @@ use Rattle.vd_space.specs.Costs.{total}
 use Rattle.vd_space_prefix.specs.Transfers.{IsWithin, by_place}
 use Rattle.vd_space_prefix.proofs.Front.{at_place, size_by_place}
 use Rattle.vd_cost_network_tables.specs.Sums.{sums_of, part}
-use Rattle.vd_space_terms.proofs.Front.{get_or_any}
+use Rattle.vd_space_tables.proofs.Front.{get_or_any}
 use Rattle.vd_cost_network_tables.proofs.Counting.{none_yet, added, unchanged, no_row, other_row, other_place}
 use Rattle.vd_cost_network_tables.proofs.Placing.{here_within}
 use Rattle.vd_cost_network_tables.proofs.sums.shift_sums.Goals as goal

@@ -1,5 +1,5 @@
 use Rattle.std.proofs.Common.{◌≡◌, take}
-use Rattle.vd_space_terms.specs.Sums.{AreSmallShifts}
+use Rattle.vd_space_tables.specs.Sums.{AreSmallShifts}
 use Rattle.vd_cost_network_tables.specs.Sums.{sums_of}
 use Rattle.vd_cost_network_tables.proofs.sums.shift_sums.Given as goal
 

@@ -1,7 +1,7 @@
 use Rattle.std.proofs.Common.{[], ◌∷◌, ◌++◌, Bool, List, cond, get_or, sym, ap₂, ◌∙◌}
 use Rattle.std.proofs.lemmas.List.Elements.{filter_more}
 use Rattle.vd_base.specs.declared.ids.SlotId.{SlotId}
-use Rattle.vd_cost_network.specs.Points.{may_bring}
+use Rattle.vd_space.specs.Points.{may_bring}
 use Rattle.vd_cost_network_tables.proofs.switches.members_of.Goals as goal
 
 abbrev none : SlotId

@@ -1,5 +1,5 @@
 use Rattle.std.proofs.Common.{◌≡◌, map, length, take}
-use Rattle.vd_deal_needs_laws.specs.Needs.{counts}
+use Rattle.vd_deal_needs.specs.DealNeedsLawsNeeds.{counts}
 use Rattle.vd_deal_needs.specs.Counted.{code_in}
 use Rattle.vd_deal_needs.specs.Needs.{needs_by}
 use Rattle.vd_deal_needs.proofs.taking.needs.Given as goal

@@ -1,6 +1,6 @@
 use Rattle.std.proofs.Common.{◌++◌, List, [], ◌∷◌, sym, ap₂, ◌∙◌, arith}
 use Rattle.std.proofs.lemmas.List.FromFn.{map-range_with_len_more}
-use Rattle.vd_deal_needs_laws.specs.Needs.{counts}
+use Rattle.vd_deal_needs.specs.DealNeedsLawsNeeds.{counts}
 use Rattle.vd_deal_needs.specs.declared.taking.Shared.{Shared}
 use Rattle.vd_deal_needs.specs.Counted.{code_in}
 use Rattle.vd_deal_needs.specs.Needs.{shared_by}

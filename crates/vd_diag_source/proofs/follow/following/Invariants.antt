@@ -1,7 +1,7 @@
 use Rattle.std.proofs.Common.{◌≡◌, ◌++◌, drop, filter}
 use Rattle.vd_parser.specs.Nesting.{NoneTooDeep}
 use Rattle.vd_parser.specs.Outcomes.{BeginSource}
-use Rattle.vd_source_spelling.specs.Kinds.{all_kinds}
+use Rattle.vd_source_lexer.specs.SourceSpellingKinds.{all_kinds}
 use Rattle.vd_diag_source.specs.Following.{goes_on, following}
 use Rattle.vd_diag_source.proofs.follow.following.Given as goal
 

@@ -1,6 +1,6 @@
 use Rattle.std.proofs.Common.{subst}
 use Rattle.vd_core.specs.declared.normal.NormalForm.{NormalForm}
-use Rattle.vd_diag_choice.specs.Remarks.{IsNoAssignmentRemark}
+use Rattle.vd_diag_terminal.specs.DiagChoiceRemarks.{IsNoAssignmentRemark}
 use Rattle.vd_diag_terminal.proofs.Least.{least_of}
 use Rattle.vd_diag_terminal.proofs.Parts.{of_space}
 use Rattle.vd_diag_terminal.proofs.programs.remark_on_slots.Goals as goal

@@ -1,7 +1,7 @@
 use Rattle.std.proofs.Common.{◌≡◌, ◌++◌, drop}
 use Rattle.vd_base.specs.Names.{bound}
 use Rattle.vd_semantics.specs.SourceMeaning.{parameter_names}
-use Rattle.vd_anf.specs.declared.spot.Spot.TheVariants.{Binding}
+use Rattle.vd_elaborate.specs.declared.anf.spot.Spot.TheVariants.{Binding}
 use Rattle.vd_elaborate.proofs.names.bind.Given as goal
 
 abbrev pub invariant-loop-parameter : goal.invariant-loop-parameter

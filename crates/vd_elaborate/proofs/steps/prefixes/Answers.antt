@@ -1,5 +1,5 @@
 use Rattle.std.proofs.Common.{ap, arith}
-use Rattle.vd_anf_wellformed.proofs.Front.{size}
+use Rattle.vd_elaborate.proofs.AnfWellformedGrowth.{size}
 use Rattle.vd_elaborate.proofs.Growth.{prefix_within}
 use Rattle.vd_elaborate.proofs.steps.prefixes.Goals as goal
 

@@ -1,5 +1,5 @@
 use Rattle.std.proofs.Common.{◌≡◌, drop}
-use Rattle.vd_anf.specs.Normal.{prefixes_made}
+use Rattle.vd_elaborate.specs.Normal.{prefixes_made}
 use Rattle.vd_elaborate.proofs.steps.prefixes.Given as goal
 
 abbrev pub invariant-loop-sign : goal.invariant-loop-sign

@@ -1,5 +1,5 @@
 use Rattle.std.proofs.Common.{◌≡◌, map, take}
-use Rattle.vd_anf.specs.Normal.{written}
+use Rattle.vd_elaborate.specs.Normal.{written}
 use Rattle.vd_elaborate.proofs.walk.all_labels.Given as goal
 
 abbrev pub invariant-loop-host : goal.invariant-loop-host

@@ -3,11 +3,12 @@ use Rattle.vd_base.specs.Limits.{most_hosts}
 use Rattle.vd_core.specs.declared.normal.NormalForm.{NormalForm}
 use Rattle.vd_core.specs.Facts.{IsWellMade}
 use Rattle.vd_semantics.specs.ProgramMeaning.{program_outputs}
-use Rattle.vd_anf.specs.Normal.{normal_form}
-use Rattle.vd_anf.proofs.Front.{outputs_kept}
+use Rattle.vd_elaborate.specs.Normal.{normal_form}
+use Rattle.vd_elaborate.proofs.Kept.{outputs_kept}
 use Rattle.vd_core.specs.declared.source.Source.{Source}
-use Rattle.vd_anf.specs.Normal.{main_made}
-use Rattle.vd_anf_wellformed.proofs.Front.{main_size, within_limits, well_made}
+use Rattle.vd_elaborate.specs.Normal.{main_made}
+use Rattle.vd_elaborate.proofs.AnfWellformedGrowth.{main_size}
+use Rattle.vd_elaborate.proofs.WellMade.{within_limits, well_made}
 use Rattle.vd_elaborate.specs.Lowered.{Fits}
 use Rattle.vd_elaborate.proofs.Growth.{hosts_length}
 use Rattle.vd_elaborate.proofs.walk.elaborate.Goals as goal

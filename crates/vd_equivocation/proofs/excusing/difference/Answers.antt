@@ -1,7 +1,7 @@
 use Rattle.std.proofs.Common.{◌≡◌, ℕ, Option, subst}
 use Rattle.vd_constraints.specs.declared.labels.Labels.{Labels}
 use Rattle.vd_core.specs.declared.normal.NormalForm.{NormalForm}
-use Rattle.vd_noninter_difference.specs.Difference.{view_difference as known_difference}
+use Rattle.vd_noninter_protocols.specs.Difference.{view_difference as known_difference}
 use Rattle.vd_equivocation.proofs.Differing.{differ_at}
 use Rattle.vd_equivocation.proofs.Stepped.{each_ok}
 use Rattle.vd_equivocation.proofs.excusing.difference.Goals as goal

@@ -2,9 +2,9 @@ use Rattle.std.proofs.Common.{List, IfOk}
 use Rattle.vd_constraints.specs.declared.labels.Labels.{Labels}
 use Rattle.vd_execution.specs.Gadgets.{Gadget}
 use Rattle.vd_execution.specs.Plans.{Plan}
-use Rattle.vd_equivocation_laws.specs.declared.step.Step.{Step}
-use Rattle.vd_views_programs.specs.Explained.{IsOfTwo, plan_of}
-use Rattle.vd_equivocation_steps.specs.Claims.{LeadTo}
+use Rattle.vd_equivocation_walk.specs.declared.equivocation_laws.step.Step.{Step}
+use Rattle.vd_views.specs.Explained.{IsOfTwo, plan_of}
+use Rattle.vd_equivocation.specs.Claims.{LeadTo}
 use Rattle.vd_equivocation.proofs.Stepped.{for_all, lead}
 use Rattle.vd_equivocation.proofs.lines.steps_at.Goals as goal
 

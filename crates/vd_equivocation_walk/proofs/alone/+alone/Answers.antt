@@ -1,5 +1,5 @@
 use Rattle.std.proofs.Common.{List, ap, ap₂, sym, ◌∙◌}
-use Rattle.vd_equivocation_laws.specs.declared.step.Step.{Step}
+use Rattle.vd_equivocation_walk.specs.declared.equivocation_laws.step.Step.{Step}
 use Rattle.vd_equivocation_runs.specs.declared.side.Side.{Side}
 use Rattle.vd_equivocation_runs.specs.Runs.{begun}
 use Rattle.vd_equivocation_walk.specs.Data.{all_alone, data_walks, turn_alone}

@@ -1,6 +1,6 @@
 use Rattle.std.proofs.Common.{◌≡◌, ◌≤◌, [], ◌+◌, inl, inr, length, take, Some, refl, sym, ◌∙◌, subst, arith}
-use Rattle.vd_source_ll1.specs.Grammar.{Sym}
-use Rattle.vd_source_ll1.specs.Reading.{Gives}
+use Rattle.vd_source_lexer.specs.Grammar.{Sym}
+use Rattle.vd_source_lexer.specs.Reading.{Gives}
 use Rattle.vd_parser.specs.declared.cursor.Refusal.TheVariants as refusal
 use Rattle.vd_parser.specs.Language.{SOURCE}
 use Rattle.vd_parser.specs.Syntax.{source_of}

@@ -1,5 +1,5 @@
 use Rattle.std.proofs.Common.{◌≡◌, length}
-use Rattle.vd_reorder_laws.specs.Careful.{careful}
+use Rattle.vd_reorder.specs.Careful.{careful}
 use Rattle.vd_reorder.specs.Packets.{stays_by}
 use Rattle.vd_reorder.specs.Passing.{all_pass}
 use Rattle.vd_reorder.proofs.passing.all_pass.Given as goal

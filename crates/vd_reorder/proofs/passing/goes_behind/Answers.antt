@@ -1,7 +1,7 @@
 use Rattle.std.proofs.Common.{◌&&◌, ◌-◌, drop, take, get_or, sym, ap, ◌∙◌}
 use Rattle.std.proofs.lemmas.List.{get_or_default}
 use Rattle.vd_execution.specs.declared.instructions.Instr.TheVariants as instr
-use Rattle.vd_reorder_laws.specs.Careful.{careful}
+use Rattle.vd_reorder.specs.Careful.{careful}
 use Rattle.vd_reorder.specs.Packets.{stays_by}
 use Rattle.vd_reorder.specs.Passing.{has_room, stretch_passes}
 use Rattle.vd_reorder.proofs.passing.goes_behind.Goals as goal

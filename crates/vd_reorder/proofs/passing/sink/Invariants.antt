@@ -1,5 +1,5 @@
 use Rattle.std.proofs.Common.{◌++◌, ◌-◌, length, take, drop}
-use Rattle.vd_reorder_laws.specs.Careful.{careful}
+use Rattle.vd_reorder.specs.Careful.{careful}
 use Rattle.vd_reorder.specs.Packets.{stays_by}
 use Rattle.vd_reorder.specs.Passing.{sunk_first, window}
 use Rattle.vd_reorder.proofs.Sinking.{Sinking}

@@ -1,5 +1,5 @@
 use Rattle.std.proofs.Common.{◌≡◌, ◌≤◌, ◌++◌, length, take, drop}
-use Rattle.vd_reorder_laws.specs.Careful.{careful}
+use Rattle.vd_reorder.specs.Careful.{careful}
 use Rattle.vd_reorder.specs.Packets.{stays_by}
 use Rattle.vd_reorder.specs.Passing.{hastened_text, window}
 use Rattle.vd_reorder.proofs.passing.sink_all.Given as goal

@@ -2,7 +2,7 @@ use Rattle.std.proofs.Common.{sym, ◌∙◌, rules, tests}
 use Rattle.std.proofs.lemmas.Iterator.{YieldsList-from_slice}
 use Rattle.std.proofs.lemmas.Iterator.Search.{any_from_yields_List}
 use Rattle.vd_execution.specs.declared.instructions.Reg.{Reg}
-use Rattle.vd_reorder_laws.specs.Testing.{has}
+use Rattle.vd_reorder.specs.ReorderLawsTesting.{has}
 use Rattle.vd_reorder.proofs.InRows.{meet_any}
 use Rattle.vd_reorder.proofs.registers.have_common.Goals as goal
 

@@ -6,7 +6,7 @@ use Rattle.vd_formula.specs.TruthTable.{TruthTable, ActsFor}
 use Rattle.vd_constraints.specs.declared.system.Check.{Check}
 use Rattle.vd_constraints.specs.Satisfies.{HoldsCheck, formula_at}
 use Rattle.vd_constraints.proofs.Front.{has_it, one_more, first_without}
-use Rattle.vd_labels_least.proofs.Front.{no_labelling, least_of_all}
+use Rattle.vd_solver.proofs.LabelsLeastChecks.{no_labelling, least_of_all}
 use Rattle.vd_solver.proofs.Checks.{check_names}
 use Rattle.vd_solver.proofs.checking.first_failing.Goals as goal
 

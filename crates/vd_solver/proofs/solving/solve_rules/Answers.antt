@@ -4,7 +4,9 @@ use Rattle.vd_constraints.specs.declared.labels.Labels.{Labels}
 use Rattle.vd_constraints.specs.Systems.{IsRuleOf}
 use Rattle.vd_solver.specs.Reading.{part_number, IsIndex}
 use Rattle.vd_constraints.proofs.Front.{names-rule}
-use Rattle.vd_labels_least.proofs.Front.{within, IsReached, free_reached}
+use Rattle.vd_solver.proofs.Parts.{within}
+use Rattle.vd_solver.proofs.LabelsLeastRaising.{IsReached}
+use Rattle.vd_solver.proofs.Free.{free_reached}
 use Rattle.vd_solver.proofs.Indexes.{number_low}
 use Rattle.vd_solver.proofs.Progress.{IsUnderWay, valid_rule, after_held, after_raised, measure_falls, solved}
 use Rattle.vd_solver.proofs.solving.solve_rules.Goals as goal

@@ -1,5 +1,5 @@
 use Rattle.std.proofs.Common.{◌+◌, ◌*◌, length}
-use Rattle.vd_labels_least.proofs.Front.{all_truths}
+use Rattle.vd_solver.proofs.Parts.{all_truths}
 use Rattle.vd_solver.proofs.Progress.{IsUnderWay}
 use Rattle.vd_solver.proofs.solving.solve_rules.Given as goal
 

@@ -1,6 +1,6 @@
 use Rattle.std.proofs.Common.{◌≡◌}
 use Rattle.vd_space.specs.Bounds.{may_stand}
-use Rattle.vd_space_shifts.specs.Rows.{if_passes, least_number}
+use Rattle.vd_space_api.specs.Rows.{if_passes, least_number}
 use Rattle.vd_space_api.specs.Low.{use_number}
 use Rattle.vd_space_api.proofs.least.least_use_from.Given as goal
 

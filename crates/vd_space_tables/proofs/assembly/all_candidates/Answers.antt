@@ -1,6 +1,6 @@
 use Rattle.std.proofs.Common.{◌≡◌}
 use Rattle.std.proofs.lemmas.Result.{IfOk-weaker}
-use Rattle.vd_space_terms.specs.Prices.{candidates_of}
+use Rattle.vd_space_tables.specs.Prices.{candidates_of}
 use Rattle.vd_space_tables.specs.Charges.{AreCandidates}
 use Rattle.vd_space_tables.proofs.Merged.{are_candidates}
 use Rattle.vd_space_tables.proofs.assembly.all_candidates.Goals as goal

@@ -1,7 +1,7 @@
 use Rattle.std.proofs.Common.{◌≡◌, ◌≤◌, ◌-◌}
 use Rattle.std.specs.List.{list_any}
 use Rattle.vd_base.specs.declared.protocols.Proto.TheVariants.{Local}
-use Rattle.vd_choreography.specs.Suite.{picked}
+use Rattle.vd_split.specs.Suite.{picked}
 use Rattle.vd_split.specs.Places.{takers}
 use Rattle.vd_split.proofs.acting.acts_in_guard.Given as goal
 

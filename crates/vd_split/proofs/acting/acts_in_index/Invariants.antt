@@ -3,7 +3,7 @@ use Rattle.std.specs.List.{list_any}
 use Rattle.vd_base.specs.HostSets.{host}
 use Rattle.vd_base.specs.declared.protocols.Proto.TheVariants.{Local}
 use Rattle.vd_base.specs.Holders.{is_holder}
-use Rattle.vd_choreography.specs.Suite.{picked}
+use Rattle.vd_split.specs.Suite.{picked}
 use Rattle.vd_split.proofs.acting.acts_in_index.Given as goal
 
 abbrev pub invariant-loop-number : goal.invariant-loop-number

@@ -1,7 +1,7 @@
 use Rattle.std.proofs.Common.{◌≡◌, ◌*◌, ◌<◌, drop, slice_index_or}
 use Rattle.vd_duet.specs.Builder.{TakesAtMost}
 use Rattle.vd_duet.specs.Laws.{Each}
-use Rattle.vd_choreography.specs.Emission.{delivered}
+use Rattle.vd_split.specs.Emission.{delivered}
 use Rattle.vd_base.specs.Holders.{proto_in}
 use Rattle.vd_split.specs.Places.{joined, delivered_onto}
 use Rattle.vd_split.proofs.moves.deliver.Given as goal

@@ -1,7 +1,7 @@
 use Rattle.std.proofs.Common.{◌≡◌, ◌*◌, IsTrue, drop, length, []}
 use Rattle.std.specs.List.{list_all}
 use Rattle.vd_duet.specs.Builder.{TakesAtMost}
-use Rattle.vd_choreography.specs.Emission.{all_moved}
+use Rattle.vd_split.specs.Emission.{all_moved}
 use Rattle.vd_split.specs.Offer.{has_parts}
 use Rattle.vd_base.specs.Holders.{proto_in}
 use Rattle.vd_split.specs.Places.{joined, moved_onto, state}

@@ -1,5 +1,5 @@
 use Rattle.std.proofs.Common.{[]}
-use Rattle.vd_choreography.specs.Emission.{all_moved}
+use Rattle.vd_split.specs.Emission.{all_moved}
 use Rattle.vd_base.specs.Holders.{proto_in}
 use Rattle.vd_split.specs.Places.{state}
 use Rattle.vd_split.proofs.Onto.{called_on}

@@ -2,8 +2,8 @@ use Rattle.std.proofs.Common.{slice_index_or, ◌∙◌}
 use Rattle.vd_base.specs.HostSets.{host}
 use Rattle.vd_base.specs.Limits.{most_hosts}
 use Rattle.vd_base.specs.Holders.{is_holder, proto_in}
-use Rattle.vd_choreography.specs.Suite.{holders_among}
-use Rattle.vd_choreography.specs.Emission.{delivered, and_on}
+use Rattle.vd_split.specs.Suite.{holders_among}
+use Rattle.vd_split.specs.Emission.{delivered, and_on}
 use Rattle.vd_split.proofs.Onto.{called_on}
 use Rattle.vd_split.proofs.Picked.{hosts_below, hosts_few}
 use Rattle.vd_split.proofs.rights.element.Goals as goal

@@ -6,7 +6,7 @@ use Rattle.vd_base.specs.declared.protocols.Proto.{Proto}
 use Rattle.vd_base.specs.declared.protocols.Proto.TheVariants.{Local, Rep, Commit, Add, Xor}
 use Rattle.vd_base.specs.HostSets.{host}
 use Rattle.vd_base.specs.Holders.{holders, is_alone, proto_in}
-use Rattle.vd_choreography.proofs.Front.{and_right}
+use Rattle.vd_split.proofs.Lists.{and_right}
 use Rattle.vd_split.specs.Offer.{Offer}
 use Rattle.vd_split.proofs.Turns.{apply_alike}
 use Rattle.vd_split.proofs.rights.right_side.Goals as goal

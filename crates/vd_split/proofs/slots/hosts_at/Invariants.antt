@@ -1,7 +1,7 @@
 use Rattle.std.proofs.Common.{◌≡◌, ◌≤◌, ◌-◌, ◌++◌}
 use Rattle.vd_base.specs.HostSets.{host}
 use Rattle.vd_base.specs.Holders.{is_holder}
-use Rattle.vd_choreography.specs.Suite.{picked}
+use Rattle.vd_split.specs.Suite.{picked}
 use Rattle.vd_split.proofs.slots.hosts_at.Given as goal
 
 abbrev pub invariant-loop-number : goal.invariant-loop-number

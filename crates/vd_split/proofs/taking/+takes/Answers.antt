@@ -1,5 +1,5 @@
 use Rattle.std.proofs.Common.{◌≡◌, ◌+◌, drop, subst, sym, ap, ◌∙◌, ◌∷◌}
-use Rattle.vd_choreography.specs.Emission.{block_emission}
+use Rattle.vd_split.specs.Emission.{block_emission}
 use Rattle.vd_base.specs.Holders.{proto_in}
 use Rattle.vd_split.proofs.Drops.{drop_next, drop_past}
 use Rattle.vd_split.proofs.TakePart.{takes_array, takes_for, takes_here, takes_let, takes_none, takes_none_here, takes_output, takes_put, takes_store, takes_variable}

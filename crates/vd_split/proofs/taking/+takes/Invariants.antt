@@ -1,5 +1,5 @@
 use Rattle.std.proofs.Common.{◌≡◌, drop}
-use Rattle.vd_choreography.specs.Emission.{block_emission}
+use Rattle.vd_split.specs.Emission.{block_emission}
 use Rattle.vd_base.specs.Holders.{proto_in}
 use Rattle.vd_split.proofs.taking.+takes.Given as goal
 

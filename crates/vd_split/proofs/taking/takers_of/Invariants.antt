@@ -1,5 +1,5 @@
 use Rattle.std.proofs.Common.{◌≡◌, ◌≤◌, ◌-◌, ◌++◌}
-use Rattle.vd_choreography.specs.Suite.{picked}
+use Rattle.vd_split.specs.Suite.{picked}
 use Rattle.vd_split.specs.Places.{takers}
 use Rattle.vd_split.proofs.taking.takers_of.Given as goal
 

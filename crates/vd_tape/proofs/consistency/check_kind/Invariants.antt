@@ -1,5 +1,5 @@
 use Rattle.std.proofs.Common.{ℕ, ◌<◌}
-use Rattle.vd_deal_items.specs.Validity.{Meets}
+use Rattle.vd_tape.specs.Validity.{Meets}
 use Rattle.vd_tape.proofs.consistency.check_kind.Given as goal
 
 abbrev pub invariant-loop-place : goal.invariant-loop-place

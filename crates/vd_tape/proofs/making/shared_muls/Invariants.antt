@@ -1,5 +1,5 @@
 use Rattle.std.proofs.Common.{◌≡◌}
-use Rattle.vd_deal_items.specs.Validity.{peer_at}
+use Rattle.vd_tape.specs.Validity.{peer_at}
 use Rattle.vd_tape.specs.Made.{first_of, mul_item}
 use Rattle.vd_tape.proofs.making.shared_muls.Given as goal
 

@@ -3,8 +3,8 @@ use Rattle.std.specs.Int.{w128}
 use Rattle.std.specs.List.{range_with_len}
 use Rattle.std.proofs.lemmas.Int.{ints, to_z-of_z}
 use Rattle.vd_space.specs.Costs.{total}
-use Rattle.vd_cost_network.specs.Arcs.{arcs}
-use Rattle.vd_cost_network.specs.Network.{by_arcs, units}
+use Rattle.vd_space.specs.Arcs.{arcs}
+use Rattle.vd_space.specs.Network.{by_arcs, units}
 use Rattle.vd_cost_network_prefix.specs.States.{as_states, count_of_points, arc_part, point_part}
 use Rattle.vd_cost_network_tables.specs.Tables.{arc_tables_of, point_tables_of}
 use Rattle.vd_cost_network_tables.proofs.Front.{switch_tables_are}

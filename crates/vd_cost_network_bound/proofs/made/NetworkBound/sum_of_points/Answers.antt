@@ -4,7 +4,7 @@ use Rattle.std.proofs.lemmas.Int.{ints}
 use Rattle.vd_space.specs.Costs.{total}
 use Rattle.vd_space_prefix.specs.Transfers.{by_place}
 use Rattle.vd_space_prefix.proofs.Front.{total_range_more, at_place, size_by_place}
-use Rattle.vd_space_terms.proofs.Front.{get_or_any}
+use Rattle.vd_space_tables.proofs.Front.{get_or_any}
 use Rattle.vd_cost_network_prefix.specs.States.{as_states, count_of_points, point_part}
 use Rattle.vd_cost_network_tables.specs.declared.sums.Rows.TheVariants.{Points}
 use Rattle.vd_cost_network_tables.specs.Sums.{part, sums_of}

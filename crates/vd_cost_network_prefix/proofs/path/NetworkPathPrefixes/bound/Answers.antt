@@ -5,7 +5,7 @@ use Rattle.std.proofs.lemmas.Int.{ints, to_z-of_z}
 use Rattle.vd_search_tree.specs.Trees.{Tree}
 use Rattle.vd_space.specs.Validity.{is_valid}
 use Rattle.vd_space.specs.Bounds.{high}
-use Rattle.vd_cost_network.specs.Network.{by_arcs, units}
+use Rattle.vd_space.specs.Network.{by_arcs, units}
 use Rattle.vd_cost_network_prefix.specs.States.{as_states}
 use Rattle.vd_cost_network_prefix.proofs.Moving.{parts_small}
 use Rattle.vd_cost_network_prefix.proofs.Steps.{all_told}

@@ -1,7 +1,7 @@
 use Rattle.std.proofs.Common.{take, ap, ◌∙◌}
 use Rattle.vd_search_tree.specs.Trees.{Tree}
 use Rattle.vd_space.specs.Validity.{is_valid}
-use Rattle.vd_cost_network.proofs.Front.{network_tree_bounded}
+use Rattle.vd_space.proofs.Front.{network_tree_bounded}
 use Rattle.vd_cost_network_prefix.proofs.path.NetworkPathPrefixes.is_valid.Goals as goal
 
 pub returns-clause-valid : goal.returns-clause-valid

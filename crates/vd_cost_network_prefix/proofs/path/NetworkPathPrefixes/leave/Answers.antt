@@ -3,7 +3,7 @@ use Rattle.std.specs.Prelude.{nat_lt}
 use Rattle.std.proofs.lemmas.Bool.{ltb-true}
 use Rattle.std.proofs.lemmas.List.{length-take-le}
 use Rattle.vd_space_prefix.proofs.Front.{front_of, size_by_place}
-use Rattle.vd_cost_network.specs.Points.{decided}
+use Rattle.vd_space.specs.Points.{decided}
 use Rattle.vd_cost_network_prefix.specs.Reach.{AreDecidedBeside}
 use Rattle.vd_cost_network_prefix.specs.States.{count_of_points, states_of}
 use Rattle.vd_cost_network_prefix.proofs.Steps.{last_of, left, leaving}

@@ -1,4 +1,4 @@
-use Rattle.vd_cost_network.proofs.Front.{network_tree_bounded}
+use Rattle.vd_space.proofs.Front.{network_tree_bounded}
 use Rattle.vd_cost_network_prefix.proofs.path.NetworkPathPrefixes.slots.Goals as goal
 
 pub returns-clause-bounded : goal.returns-clause-bounded

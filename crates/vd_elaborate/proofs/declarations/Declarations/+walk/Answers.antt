@@ -4,9 +4,9 @@ use Rattle.vd_core.specs.declared.source.Expr.TheFolds.{the_lemmas}
 use Rattle.vd_core.specs.declared.source.Statement.TheFolds.{the_lemmas as the_statements}
 use Rattle.vd_semantics.specs.SourceMeaning.{host_names, parameter_names}
 use Rattle.vd_semantics.proofs.Front.{function_fits, statement_fits, function_here, function_not_here}
-use Rattle.vd_anf.specs.declared.spot.Spot.TheVariants.{Binding}
-use Rattle.vd_anf.specs.Normal.{Made, Place, call_made, inlining_of, inlinings_of}
-use Rattle.vd_anf_wellformed.proofs.Front.{size}
+use Rattle.vd_elaborate.specs.declared.anf.spot.Spot.TheVariants.{Binding}
+use Rattle.vd_elaborate.specs.Normal.{Made, Place, call_made, inlining_of, inlinings_of}
+use Rattle.vd_elaborate.proofs.AnfWellformedGrowth.{size}
 use Rattle.vd_elaborate.specs.Lowered.{Fits, lowered, all_lowered, place, inside}
 use Rattle.vd_elaborate.proofs.Growth.{statement_within, expr_within, segment_within, chain_step, exprs_step, min_first, max_first, mux_first, unary_operand, chain_operand, call_arguments, part_fits, second_fits, inside_more, turn_more, body_within, put_index, guard_fits, block_fits}
 use Rattle.vd_elaborate.proofs.Blocks.{block_left}

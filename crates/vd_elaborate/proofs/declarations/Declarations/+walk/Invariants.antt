@@ -2,7 +2,7 @@ use Rattle.std.proofs.Common.{◌≡◌, ℕ, ◌+◌, ◌*◌, ◌++◌, map, t
 use Rattle.vd_base.specs.Names.{at_name}
 use Rattle.vd_semantics.specs.SourceMeaning.{host_names}
 use Rattle.vd_semantics.proofs.Front.{code_size, size_of, sizes, function_size}
-use Rattle.vd_anf.specs.Normal.{Made, lowering, lowering_of_segment, chain_made, all_made, lowering_of, statements_made, inlinings_of}
+use Rattle.vd_elaborate.specs.Normal.{Made, lowering, lowering_of_segment, chain_made, all_made, lowering_of, statements_made, inlinings_of}
 use Rattle.vd_elaborate.proofs.declarations.Declarations.+walk.Given as goal
 
 abbrev pub decreases-lower : goal.decreases-lower

@@ -1,5 +1,5 @@
 use Rattle.std.proofs.Common.{List, ap, ap₂, ◌∙◌}
-use Rattle.vd_equivocation_laws.specs.declared.step.Step.{Step}
+use Rattle.vd_equivocation_walk.specs.declared.equivocation_laws.step.Step.{Step}
 use Rattle.vd_equivocation_walk.specs.declared.walker.Walker.{Walker}
 use Rattle.vd_equivocation_walk.specs.Data.{all_both, both_begun, both_turn, data_walks}
 use Rattle.vd_equivocation_walk.proofs.Steps.{one_turn}

@@ -1,6 +1,6 @@
 use Rattle.std.proofs.Common.{◌≡◌, ℕ, length, ◌+◌, ◌-◌, ◌*◌}
-use Rattle.vd_source_ll1.specs.Grammar.{Sym, Seq, Star}
-use Rattle.vd_source_ll1.specs.Reading.{Collects}
+use Rattle.vd_source_lexer.specs.Grammar.{Sym, Seq, Star}
+use Rattle.vd_source_lexer.specs.Reading.{Collects}
 use Rattle.vd_source_lexer.specs.declared.token.TokenKind.TheVariants as kind
 use Rattle.vd_parser.specs.declared.operators.Level.{Level}
 use Rattle.vd_parser.specs.declared.operators.Level.TheVariants as level

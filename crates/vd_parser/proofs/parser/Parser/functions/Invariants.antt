@@ -1,6 +1,6 @@
 use Rattle.std.proofs.Common.{length}
-use Rattle.vd_source_ll1.specs.Grammar.{Sym, Star}
-use Rattle.vd_source_ll1.specs.Reading.{Collects}
+use Rattle.vd_source_lexer.specs.Grammar.{Sym, Star}
+use Rattle.vd_source_lexer.specs.Reading.{Collects}
 use Rattle.vd_parser.specs.Language.{FUN}
 use Rattle.vd_parser.specs.Syntax.{functions_of}
 use Rattle.vd_parser.specs.Parsing.{language}

@@ -1,6 +1,6 @@
 use Rattle.std.proofs.Common.{length}
-use Rattle.vd_source_ll1.specs.Grammar.{Sym, Seq}
-use Rattle.vd_source_ll1.specs.Reading.{Collects}
+use Rattle.vd_source_lexer.specs.Grammar.{Sym, Seq}
+use Rattle.vd_source_lexer.specs.Reading.{Collects}
 use Rattle.vd_source_lexer.specs.declared.token.TokenKind.TheVariants as kind
 use Rattle.vd_parser.specs.Language.{tok, commas, PARAM}
 use Rattle.vd_parser.specs.Syntax.{parameter_list_of, more_parameters_of}

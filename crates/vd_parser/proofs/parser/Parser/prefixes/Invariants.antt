@@ -1,6 +1,6 @@
 use Rattle.std.proofs.Common.{length}
-use Rattle.vd_source_ll1.specs.Grammar.{Star}
-use Rattle.vd_source_ll1.specs.Reading.{Collects}
+use Rattle.vd_source_lexer.specs.Grammar.{Star}
+use Rattle.vd_source_lexer.specs.Reading.{Collects}
 use Rattle.vd_parser.specs.Language.{prefix_ops}
 use Rattle.vd_parser.specs.Syntax.{prefixes_of}
 use Rattle.vd_parser.specs.Parsing.{language}

@@ -1,5 +1,0 @@
-use Rattle.vd_backend_algebra.proofs.Parts.{scale_each}
-use Rattle.vd_backend_algebra.proofs.sharing.sums_part_by_part.Goals as goal
-
-pub returns-clause-scale : goal.returns-clause-scale
-returns-clause-scale c = scale_each

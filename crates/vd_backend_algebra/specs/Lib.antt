@@ -1,6 +1,0 @@
-pub mod Circuits
-pub mod Computing
-pub mod Gates
-pub mod Sharing
-pub mod Products
-pub mod Conversions

@@ -1,3 +1,0 @@
-mod Silent
-mod Sent
-mod Compared

@@ -1,5 +1,0 @@
-use Rattle.vd_backend_openings.proofs.Sent.{words_are_sent}
-use Rattle.vd_backend_openings.proofs.so_many_words_are_sent.Goals as goal
-
-pub returns : goal.returns
-returns c = words_are_sent

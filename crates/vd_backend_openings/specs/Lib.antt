@@ -1,4 +1,0 @@
-pub mod Openings
-pub mod Law
-pub mod Sent
-pub mod Compared

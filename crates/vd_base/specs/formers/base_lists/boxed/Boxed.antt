@@ -1,0 +1,62 @@
+-- How a `Boxed` holds its value, so that a type may reach itself through a field `Boxed<..>`.
+-- The names are those that the check asks of an owner of values; it proves them against the struct.
+use mathlib.Core.Path.{refl}
+use mathlib.Core.Former.{Former, this, const, pair, via}
+use base.Stored.{gnil}
+use base.Fml.{ftrue}
+use denote.RattleType.{RattleType}
+use denote.Memory.{part_of}
+use denote.RawPtr.{Ptr}
+use denote.Sharing.{nothing}
+use denote.HoleLaws.{Alike}
+use denote.HolePlaces.{Recodes, struct_places, laid, one_value}
+use denote.Hole.Fix.{over}
+use denote.Param.Weighed.{Weighed}
+use denote.Model.Placed.{view_places}
+use Rattle.std.specs.declared.boxed.Box.{Box}
+use Rattle.std.specs.contracts.boxed.Box as box
+use Rattle.std.specs.declared.alloc.Global.{Global}
+use Rattle.std.specs.contracts.alloc.Global as heap
+use Rattle.std.specs.contracts.impls.GlobalAllocator.TheImpl.{ghosts}
+use Rattle.vd_base.specs.declared.base_lists.boxed.Boxed.TheInside.{Inside}
+use Rattle.vd_base.specs.declared.base_lists.boxed.Boxed.TheView.{view, invariant}
+use Rattle.vd_base.specs.contracts.base_lists.boxed.Boxed as boxed
+use Rattle.vd_base.specs.contracts.base_lists.boxed.Boxed.TheInside as inside
+
+-- a `Boxed` is its value
+abbrev pub the_former : Former {0} → Former {0}
+the_former value = value
+
+abbrev pub the_weighed : {g : Former {0}} → Weighed g → Weighed (the_former g)
+the_weighed weighed = weighed
+
+-- the one field, a `Box`: a pointer and an allocator beside the value
+abbrev box_field : Former {0}
+box_field = via (pair (const (Ptr × Global)) this) Inside (λ X a. ((a.inner.ptr, a.inner.alloc), a.inner.value))
+    (λ X v. record { inner = record { ptr = v.0.0; alloc = v.0.1; value = v.1 } }) (λ X a. refl) (λ X v. refl)
+
+-- the box with another value in it
+abbrev with_value : {X Y : Type 0} → Box X Global → Y → Box Y Global
+with_value b value = record { ptr = b.ptr; alloc = b.alloc; value = value }
+
+abbrev box_row : RattleType → RattleType
+box_row R = box.the_row R heap.the_row ghosts
+
+module _ (R S : RattleType) (h : R.Denot → S.Denot) where
+  box_places : Alike R S h → Alike (box_row R) (box_row S) (λ b. with_value b (h b.value))
+  unfolding part_of
+  box_places alike = record {
+    mir_same = λ i. (box_row (one_value R (alike.mir_same i) (λ _. ftrue) (λ _ _. nothing) gnil)).mir;
+    own_same = λ b i. (box_row (one_value R (alike.mir_same i) (alike.own_same b.value i) (alike.shr_same b.value i) gnil)).own_val (with_value b tt);
+    shr_same = λ b i. (box_row (one_value R (alike.mir_same i) (alike.own_same b.value i) (alike.shr_same b.value i) gnil)).shr_at (with_value b tt);
+  }
+
+  pub the_places : Alike R S h → Alike (boxed.the_row R) (boxed.the_row S) ((the_former this).map R.Denot S.Denot h)
+  the_places alike = view_places box_field this view (λ X Y k u. refl) (λ X u. refl) R.Denot S.Denot h (boxed.the_row R).coded (boxed.the_row S).coded
+      (invariant R.Denot) (invariant S.Denot) (λ u p q. refl) (λ u p q. refl) (λ u e. tt) (λ u e. tt)
+      (over (inside.the_row R)) (over (inside.the_row S))
+      (struct_places (inside.the_type R) (inside.the_type S) ((λ b. with_value b (h b.value)), tt) _ (λ d. refl) refl
+      (laid _ _ _ (box_places alike), tt))
+
+  pub the_codes_placed : Recodes R S h → Recodes (boxed.the_row R) (boxed.the_row S) ((the_former this).map R.Denot S.Denot h)
+  the_codes_placed same_codes value = same_codes value

@@ -1,0 +1,7 @@
+use Rattle.std.proofs.Common.{◌∙◌, ◌++◌, ℕ, List, ap, codes}
+use Rattle.vd_channel_crypto.specs.Codes.{derived}
+use Rattle.vd_channel_crypto.specs.DealKeysKeys.{salt}
+use Rattle.vd_channel_crypto.proofs.deal_keys.keys.link_key.Goals as goal
+
+pub returns : goal.returns
+returns c = c.derive.ensures ∙ ap (λ (l : List ℕ). derived salt c.args.key.now (codes "link" ++ l)) c.link_bytes.ensures

@@ -1,5 +1,0 @@
-mod Agreeing
-mod Ends
-mod Greeted
-mod Refusing
-mod Saying

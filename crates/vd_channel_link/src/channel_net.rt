@@ -1,0 +1,12 @@
+//! A net whose links are sealed: it owns another net, and once it is told what to seal by it gives only links to hosts that proved
+//! that they have the link's key.
+
+mod laws;
+mod ledger;
+mod seal;
+mod sealed_net;
+
+pub use laws::unsent_links_greet_alone;
+pub use ledger::Ledger;
+pub use seal::Seal;
+pub use sealed_net::SealedNet;

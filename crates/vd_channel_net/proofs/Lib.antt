@@ -1,3 +1,0 @@
-mod Happening
-mod Sealed
-mod Tried

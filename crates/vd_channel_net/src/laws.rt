@@ -1,8 +1,0 @@
-//! What holds of each net whose links are sealed, as laws.
-
-ghost use Rattle.vd_channel_net.specs.Ledgers.{UnsentGreetAlone};
-
-/// Where nothing was sent each link that was given came back, and no more than its greeting went out over it: a prefix of its first record.
-pub fn unsent_links_greet_alone()
-    ensures { UnsentGreetAlone }
-{}

@@ -1,8 +1,0 @@
-use Rattle.vd_choreography_coalescing.proofs.Telling.{joined_runs_on, joined_tells}
-use Rattle.vd_choreography_coalescing.proofs.laws.joined_code_tells_the_same.Goals as goal
-
-pub returns-clause-same : goal.returns-clause-same
-returns-clause-same c = joined_tells
-
-pub returns-clause-runs : goal.returns-clause-runs
-returns-clause-runs c = joined_runs_on

@@ -1,8 +1,0 @@
-//! Packets that share: of neighbours in joint code that go from one host to another one packet is made, of up to 16 words.
-#![tactic(auto)]
-
-mod joining;
-mod laws;
-
-pub use joining::join_packets;
-pub use laws::joined_code_tells_the_same;

@@ -1,6 +1,0 @@
-pub mod Front
-mod Alike
-mod Turned
-mod Tidy
-mod Apart
-mod Own

@@ -1,5 +1,0 @@
-pub mod Front
-mod Kept
-mod Mail
-mod Same
-mod Waiting

@@ -1,8 +1,0 @@
-use Rattle.vd_choreography_packets.proofs.Same.{packets_brought, packets_kept}
-use Rattle.vd_choreography_packets.proofs.packets_are_kept.Goals as goal
-
-pub returns-clause-kept : goal.returns-clause-kept
-returns-clause-kept c = packets_kept
-
-pub returns-clause-forward : goal.returns-clause-forward
-returns-clause-forward c = packets_brought

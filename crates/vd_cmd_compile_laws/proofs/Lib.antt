@@ -1,6 +1,0 @@
-pub mod Front
-mod Files
-mod Texts
-mod Holding
-mod Order
-mod Names

@@ -1,5 +1,0 @@
-use Rattle.vd_cmd_compile_laws.proofs.Texts.{compiled_files_can_be_read}
-use Rattle.vd_cmd_compile_laws.proofs.laws.compiled_files_can_be_read.Goals as goal
-
-pub returns : goal.returns
-returns c = compiled_files_can_be_read c.args.program.now c.form-form.ensures.well_made c.form-form.ensures.fit

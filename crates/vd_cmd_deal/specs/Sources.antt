@@ -1,0 +1,41 @@
+-- The command `deal` for a key that is drawn, and for one that a file has.
+use Rattle.std.specs.Prelude.{◌≡◌, ℕ, true, List, length, codes, Result, Ok, Err, nat_lt, if◌then◌else◌}
+use Rattle.vd_base.specs.declared.faults.CallFault.{CallFault}
+use Rattle.vd_base.specs.declared.faults.CallFault.TheVariants as call_fault
+use Rattle.vd_outside.specs.Files.{Contents, FilesView}
+use Rattle.vd_outside.specs.Sink.{SinkView}
+use Rattle.vd_outside.specs.Marks.{Draws, MarksView}
+use Rattle.vd_tape.specs.declared.deal_items.deal.Counts.{Counts}
+use Rattle.vd_cmd.specs.declared.command.KeyDealWords.{KeyDealWords}
+use Rattle.vd_cmd.specs.declared.command.KeySource.TheVariants.{Drawn, InFile}
+use Rattle.vd_cmd_plan.specs.Plans.{Plan, answer_then, check_then, file_then}
+use Rattle.vd_cmd_plan.specs.Runs.{Runs}
+use Rattle.vd_cmd_plan.specs.declared.status.Status.{Status}
+use Rattle.vd_cmd_plan.specs.declared.status.Status.TheVariants.{Memory, ReadFault, ShortKey}
+use Rattle.vd_cmd_deal.specs.KeyDealing.{key_answer}
+
+-- a key has 32 bytes
+abbrev pub key_in : (name bytes : List ℕ) → Result (List ℕ) Status
+key_in name bytes = if nat_lt (length bytes) 32 then Err (ShortKey name (length bytes)) else Ok bytes
+
+abbrev pub bytes_plan : Counts → (name prefix bytes : List ℕ) → Contents → Plan
+bytes_plan counts name prefix bytes = check_then (key_in name bytes) (λ key. answer_then (key_answer counts key prefix))
+
+-- the file is fetched, and the deal of its bytes is made
+abbrev pub file_plan : Counts → (name prefix : List ℕ) → Contents → Plan
+file_plan counts name prefix = file_then name 32 (bytes_plan counts name prefix)
+
+-- a draw that fails is a fault of a file of this name
+abbrev pub not_drawn : List ℕ → CallFault → Status
+not_drawn draw call_fault.Failed = ReadFault draw
+not_drawn draw call_fault.Memory = Memory
+
+-- A key from a file, or one that the marks draw. Where none is drawn, or there was no memory before, nothing was stored.
+pub data RunsKeyDeal (words : KeyDealWords) (files files_now : FilesView) (marks marks_now : MarksView) (out out_now : SinkView) : Status → Type 0 where
+  FromFile : (name : List ℕ) (end : Status) → words.key ≡ InFile name → marks_now ≡ marks → Runs true (file_plan words.counts name words.prefix) files files_now out out_now end
+      → RunsKeyDeal words files files_now marks marks_now out out_now end
+  FromDraw : (key : List ℕ) (end : Status) → words.key ≡ Drawn → Draws marks marks_now (Ok key) → Runs true (answer_then (key_answer words.counts key words.prefix)) files files_now out out_now end
+      → RunsKeyDeal words files files_now marks marks_now out out_now end
+  NotDrawn : (fault : CallFault) → words.key ≡ Drawn → Draws marks marks_now (Err fault) → files_now ≡ files → out_now ≡ out
+      → RunsKeyDeal words files files_now marks marks_now out out_now (not_drawn (codes "draw") fault)
+  NoMemory : words.key ≡ Drawn → marks_now ≡ marks → files_now ≡ files → out_now ≡ out → RunsKeyDeal words files files_now marks marks_now out out_now Memory

@@ -1,4 +1,0 @@
-pub mod Front
-mod Digests
-mod OneMore
-mod ReadBack

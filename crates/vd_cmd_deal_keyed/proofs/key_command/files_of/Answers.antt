@@ -1,6 +1,0 @@
-use Rattle.vd_cmd_deal_keyed.proofs.OneMore.{one_more}
-use Rattle.vd_cmd_deal_keyed.proofs.key_command.files_of.Goals as goal
-
-pub loop-number-preserved : goal.loop-number-preserved
-loop-number-preserved c =
-    one_more c.args.counts c.args.key.now c.args.prefix.now c.args.deals.now c.loop-number.number c.index-deals-number.result _ _ _ _ c.loop-number-test.true c.index-deals-number.is c.loop-number.invariant (c.in_ok-name.ensures {u = tt}) (c.in_ok-content.ensures {u = tt}) c.in_ok-push.ensures.ok

@@ -1,3 +1,0 @@
-pub mod KeyDealing
-pub mod Laws
-pub mod Sources

@@ -1,9 +1,0 @@
-//! The dealer's command for a key of 32 bytes: it makes a deal whose items and links have keys of their own, and stores each host's part.
-#![tactic(auto)]
-
-mod key_command;
-mod laws;
-mod sources;
-
-pub use laws::key_deals_are_read;
-pub use sources::deal_by_source;

@@ -1,5 +1,0 @@
-pub mod Front
-mod KeyedTaken
-mod SecretShort
-mod Short
-mod Taken

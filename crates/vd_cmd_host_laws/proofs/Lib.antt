@@ -1,8 +1,0 @@
-pub mod Front
-mod Files
-mod Giving
-mod Returning
-mod Staying
-mod Ending
-mod Instance
-mod Serving

@@ -1,5 +1,0 @@
-use Rattle.vd_cmd_host_laws.proofs.Instance.{equal_words}
-use Rattle.vd_cmd_host_laws.proofs.equal_words_are_enough.Goals as goal
-
-pub returns : goal.returns
-returns c = equal_words

@@ -1,0 +1,20 @@
+pub mod Front
+mod Plans
+mod Sources
+mod Labels
+mod Proved
+mod Proofs
+mod Short
+mod Choices
+mod Standing
+mod Compiled
+mod Endings
+mod Files
+mod Texts
+mod Holding
+mod Order
+mod Names
+mod KeyedTaken
+mod SecretShort
+mod CmdDealLawsShort
+mod Taken

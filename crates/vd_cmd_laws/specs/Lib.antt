@@ -1,0 +1,7 @@
+pub mod Answers
+pub mod Laws
+pub mod Compiled
+pub mod Holding
+pub mod Sizes
+pub mod Dealt
+pub mod KeyedDealt

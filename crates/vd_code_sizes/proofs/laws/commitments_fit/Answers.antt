@@ -1,8 +1,0 @@
-use Rattle.vd_code_sizes.proofs.CommitmentSizes.{committing_fit, revealing_fit}
-use Rattle.vd_code_sizes.proofs.laws.commitments_fit.Goals as goal
-
-pub returns-clause-committing : goal.returns-clause-committing
-returns-clause-committing c = committing_fit
-
-pub returns-clause-revealing : goal.returns-clause-revealing
-returns-clause-revealing c = revealing_fit

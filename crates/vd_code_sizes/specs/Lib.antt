@@ -1,4 +1,0 @@
-pub mod Ranges
-pub mod Fits
-pub mod Sizes
-pub mod Statements

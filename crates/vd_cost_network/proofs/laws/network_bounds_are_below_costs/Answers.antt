@@ -1,5 +1,0 @@
-use Rattle.vd_cost_network.proofs.Bounded.{units_below, network_high_below}
-use Rattle.vd_cost_network.proofs.laws.network_bounds_are_below_costs.Goals as goal
-
-pub returns : goal.returns
-returns c = record { by_arcs = units_below; high = network_high_below }

@@ -1,5 +1,0 @@
-use Rattle.vd_cost_network.proofs.Bounded.{units_whole, network_high_whole}
-use Rattle.vd_cost_network.proofs.laws.network_bounds_end_in_costs.Goals as goal
-
-pub returns : goal.returns
-returns c = record { by_arcs = units_whole; high = network_high_whole }

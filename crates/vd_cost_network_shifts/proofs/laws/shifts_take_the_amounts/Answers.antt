@@ -1,6 +1,0 @@
-use Rattle.vd_cost_network_sweeps.specs.Rows.{row_of}
-use Rattle.vd_cost_network_shifts.proofs.Taken.{taken}
-use Rattle.vd_cost_network_shifts.proofs.laws.shifts_take_the_amounts.Goals as goal
-
-pub returns : goal.returns
-returns c = λ nets places arcs at v w low first second. taken at v w (row_of nets.firsts) (row_of nets.seconds) places arcs low first second

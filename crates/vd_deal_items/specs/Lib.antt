@@ -1,2 +1,0 @@
-pub mod Identities
-pub mod Validity

@@ -1,7 +1,0 @@
-use Rattle.std.proofs.Common.{◌∙◌, ◌++◌, ℕ, List, ap, codes}
-use Rattle.vd_channel_crypto.specs.Codes.{derived}
-use Rattle.vd_deal_keys.specs.Keys.{salt}
-use Rattle.vd_deal_keys.proofs.keys.dealing_id.Goals as goal
-
-pub returns : goal.returns
-returns c = c.derive.ensures ∙ ap (λ (l : List ℕ). derived salt c.args.key.now (codes "id" ++ l)) c.counts_bytes.ensures

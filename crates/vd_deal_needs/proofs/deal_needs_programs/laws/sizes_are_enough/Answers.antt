@@ -1,0 +1,5 @@
+use Rattle.vd_deal_needs.proofs.Enough.{sizes_are_enough}
+use Rattle.vd_deal_needs.proofs.deal_needs_programs.laws.sizes_are_enough.Goals as goal
+
+pub returns : goal.returns
+returns c = sizes_are_enough

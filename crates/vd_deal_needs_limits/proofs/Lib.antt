@@ -1,4 +1,0 @@
-pub mod Front
-mod Acts
-mod Blocks
-mod Programs

@@ -1,6 +1,0 @@
-pub mod Front
-mod Countable
-mod Strangers
-mod Sizes
-mod Enough
-mod Made

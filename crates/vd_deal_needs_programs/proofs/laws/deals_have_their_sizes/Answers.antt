@@ -1,5 +1,0 @@
-use Rattle.vd_deal_needs_programs.proofs.Made.{deals_have_their_sizes}
-use Rattle.vd_deal_needs_programs.proofs.laws.deals_have_their_sizes.Goals as goal
-
-pub returns : goal.returns
-returns c = deals_have_their_sizes

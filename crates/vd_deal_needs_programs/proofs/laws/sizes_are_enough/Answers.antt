@@ -1,5 +1,0 @@
-use Rattle.vd_deal_needs_programs.proofs.Enough.{sizes_are_enough}
-use Rattle.vd_deal_needs_programs.proofs.laws.sizes_are_enough.Goals as goal
-
-pub returns : goal.returns
-returns c = sizes_are_enough

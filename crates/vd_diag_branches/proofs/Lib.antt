@@ -1,3 +1,0 @@
-mod Seen
-mod Arms
-mod Pure

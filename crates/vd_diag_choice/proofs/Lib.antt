@@ -1,3 +1,0 @@
-mod Candidates
-mod Told
-mod Searched

@@ -1,8 +1,0 @@
-use Rattle.std.proofs.Common.{take}
-use Rattle.std.specs.Prelude.{All}
-use Rattle.vd_diag_choice.specs.Bare.{HasCandidate}
-use Rattle.vd_diag_choice.proofs.bare.first_bare.Given as goal
-
--- each slot before has a candidate
-abbrev pub invariant-loop-place : goal.invariant-loop-place
-invariant-loop-place l = All (HasCandidate l.problem) (take l.place l.makings)

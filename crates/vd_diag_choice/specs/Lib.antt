@@ -1,5 +1,0 @@
-pub mod Spaces
-pub mod Bare
-pub mod Sentences
-pub mod Remarks
-pub mod Spent

@@ -1,8 +1,0 @@
-//! Sentences on flow faults: which host or written label may not read, or does not answer for, what.
-#![tactic(auto)]
-
-mod flow;
-mod phrases;
-mod sentences;
-
-pub use flow::flow_remark;

@@ -1,9 +1,0 @@
-//! Places in a text that a person wrote: the line and the column of an offset, and the excerpt that shows them.
-#![tactic(auto)]
-
-mod excerpts;
-mod lines;
-mod terminal;
-
-pub use excerpts::excerpt;
-pub use lines::{line_behind, line_number};

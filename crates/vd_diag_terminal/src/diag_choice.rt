@@ -1,0 +1,13 @@
+//! Sentences on the choice of protocols for a program: the first slot that has no candidate, and how far a search came.
+
+mod bare;
+mod laws;
+mod remarks;
+mod spaces;
+mod spent;
+mod texts;
+
+pub use laws::valid_lists_stand_at_candidates;
+pub use remarks::no_assignment_remark;
+pub use spaces::space_for;
+pub use spent::search_sentence;

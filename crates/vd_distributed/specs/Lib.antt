@@ -1,0 +1,9 @@
+pub mod AllHosts
+pub mod Linked
+pub mod Driven
+pub mod Links
+pub mod Running
+pub mod Ending
+pub mod Instance
+pub mod Serving
+pub mod Children

@@ -1,6 +1,0 @@
-mod Program
-mod Files
-mod Starting
-mod Playing
-mod Enough
-mod Whole

@@ -1,5 +1,0 @@
-use Rattle.vd_distributed_hosts.proofs.Joined.{linked_hosts_tell_the_same}
-use Rattle.vd_distributed_hosts.proofs.linked_hosts_tell_the_same.Goals as goal
-
-pub returns : goal.returns
-returns c = linked_hosts_tell_the_same

@@ -1,5 +1,0 @@
-use Rattle.vd_distributed_programs.proofs.Running.{running_hosts_tell_the_source}
-use Rattle.vd_distributed_programs.proofs.running_hosts_tell_the_source.Goals as goal
-
-pub returns : goal.returns
-returns c = running_hosts_tell_the_source

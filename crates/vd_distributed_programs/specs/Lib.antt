@@ -1,3 +1,0 @@
-pub mod Links
-pub mod Running
-pub mod Ending

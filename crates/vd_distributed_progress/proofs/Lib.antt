@@ -1,4 +1,0 @@
-mod Passing
-mod Driving
-mod Serving
-mod Stored

@@ -1,5 +1,0 @@
-use Rattle.vd_distributed_progress.proofs.Stored.{stored_hosts_are_served}
-use Rattle.vd_distributed_progress.proofs.stored_hosts_are_served.Goals as goal
-
-pub returns : goal.returns
-returns c = stored_hosts_are_served

@@ -1,5 +1,0 @@
-mod Heading
-mod Legends
-mod Adding
-mod Arrows
-mod Coming

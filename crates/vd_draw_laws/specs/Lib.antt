@@ -1,4 +1,0 @@
-pub mod Together
-pub mod Showing
-pub mod Legends
-pub mod Heading

@@ -1,5 +1,0 @@
-use Rattle.vd_draw_svg.proofs.Escaped.{no_tags}
-use Rattle.vd_draw_svg.proofs.laws.escaped_texts_have_no_tags.Goals as goal
-
-pub returns : goal.returns
-returns c = no_tags

@@ -1,6 +1,0 @@
-use Rattle.std.proofs.Common.{◌≡◌, ◌++◌, take}
-use Rattle.vd_draw_svg.specs.Tags.{escaped}
-use Rattle.vd_draw_svg.proofs.tags.push_escaped.Given as goal
-
-abbrev pub invariant-loop-byte : goal.invariant-loop-byte
-invariant-loop-byte l = l.text ≡ l.initial.text ++ escaped (take l.byte-index l.bytes)

@@ -1,4 +1,0 @@
-pub mod Classes
-pub mod Tags
-pub mod Documents
-pub mod Escapes

@@ -1,4 +1,0 @@
-pub mod Front
-mod Strangers
-mod Short
-mod Excused

@@ -1,4 +1,0 @@
-mod Rows
-mod Calls
-mod Moves
-mod Programs

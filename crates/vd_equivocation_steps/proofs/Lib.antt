@@ -1,6 +1,0 @@
-mod Backward
-mod Blocks
-mod Gadgets
-mod Nobody
-mod Trimmed
-mod Plans

@@ -1,9 +1,0 @@
-//! The steps of a plan, read from the lines of its joint code.
-#![tactic(auto)]
-
-mod ahead;
-mod block;
-mod reader;
-mod steps;
-
-pub use steps::steps_of;

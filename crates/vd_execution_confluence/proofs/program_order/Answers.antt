@@ -1,5 +1,0 @@
-use Rattle.vd_execution_confluence.proofs.Compiled.{in_program_order}
-use Rattle.vd_execution_confluence.proofs.program_order.Goals as goal
-
-pub returns : goal.returns
-returns c = λ s j runs. in_program_order s j runs.well runs.enough

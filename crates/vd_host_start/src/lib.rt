@@ -1,6 +1,0 @@
-//! A host that is ready to be run, from what its files hold: its program, its inputs and its deal.
-#![tactic(auto)]
-
-mod starting;
-
-pub use starting::{Ready, start};

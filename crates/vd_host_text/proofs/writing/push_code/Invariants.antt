@@ -1,6 +1,0 @@
-use Rattle.std.proofs.Common.{◌≡◌, ◌++◌, take, flat_map}
-use Rattle.vd_host_text.specs.Text.{line}
-use Rattle.vd_host_text.proofs.writing.push_code.Given as goal
-
-abbrev pub invariant-loop-instruction : goal.invariant-loop-instruction
-invariant-loop-instruction l = l.bytes ≡ l.fn.bytes ++ flat_map line (take l.instruction-index l.code)

@@ -1,5 +1,0 @@
-use Rattle.vd_integrity_assigned.proofs.Assigned.{guards_told_in_trust}
-use Rattle.vd_integrity_assigned.proofs.laws.guards_are_told_where_they_are_kept.Goals as goal
-
-pub returns : goal.returns
-returns c = guards_told_in_trust

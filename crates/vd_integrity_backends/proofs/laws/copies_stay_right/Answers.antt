@@ -1,5 +1,0 @@
-use Rattle.vd_integrity_backends.proofs.Copies.{copies_stay_right}
-use Rattle.vd_integrity_backends.proofs.laws.copies_stay_right.Goals as goal
-
-pub returns : goal.returns
-returns c = copies_stay_right

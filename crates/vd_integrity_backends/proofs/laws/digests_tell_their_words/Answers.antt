@@ -1,5 +1,0 @@
-use Rattle.vd_integrity_backends.proofs.Digests.{digests_tell}
-use Rattle.vd_integrity_backends.proofs.laws.digests_tell_their_words.Goals as goal
-
-pub returns : goal.returns
-returns c = digests_tell

@@ -1,5 +1,0 @@
-use Rattle.vd_integrity_backends.proofs.Steps.{keepers_run_together}
-use Rattle.vd_integrity_backends.proofs.laws.keepers_run_together.Goals as goal
-
-pub returns : goal.returns
-returns c = keepers_run_together

@@ -1,3 +1,0 @@
-mod Steps
-mod Running
-mod Passing

@@ -1,5 +1,0 @@
-use Rattle.vd_integrity_checks.proofs.Passing.{opened_has_the_digest}
-use Rattle.vd_integrity_checks.proofs.laws.openings_bind.Goals as goal
-
-pub returns : goal.returns
-returns c = opened_has_the_digest

@@ -1,5 +1,0 @@
-use Rattle.vd_integrity_checks.proofs.Passing.{shown_are_equal}
-use Rattle.vd_integrity_checks.proofs.laws.shown_copies_are_equal.Goals as goal
-
-pub returns : goal.returns
-returns c = shown_are_equal

@@ -1,4 +1,0 @@
-pub mod Front
-mod Hiding
-mod Own
-mod Deciding

@@ -1,5 +1,0 @@
-use Rattle.vd_integrity_endorsed.proofs.Own.{own_words}
-use Rattle.vd_integrity_endorsed.proofs.laws.own_words_make_the_run.Goals as goal
-
-pub returns : goal.returns
-returns c = own_words

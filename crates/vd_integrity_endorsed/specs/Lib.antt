@@ -1,2 +1,0 @@
-pub mod Endorsed
-pub mod Laws

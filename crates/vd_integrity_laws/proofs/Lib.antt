@@ -1,6 +1,0 @@
-pub mod Front
-mod Vouching
-mod Lawful
-mod Theorem
-mod Influence
-mod Trusted

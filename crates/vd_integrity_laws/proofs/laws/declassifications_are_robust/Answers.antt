@@ -1,5 +1,0 @@
-use Rattle.vd_integrity_laws.proofs.Theorem.{declassify_is_robust}
-use Rattle.vd_integrity_laws.proofs.laws.declassifications_are_robust.Goals as goal
-
-pub returns : goal.returns
-returns c = λ p l well satisfies set low. declassify_is_robust p l well satisfies set low

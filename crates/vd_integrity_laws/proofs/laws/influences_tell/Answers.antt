@@ -1,6 +1,0 @@
-use Rattle.vd_integrity_laws.proofs.Influence.{influences_are_enough, influences_are_single}
-use Rattle.vd_integrity_laws.proofs.Trusted.{influences_nest}
-use Rattle.vd_integrity_laws.proofs.laws.influences_tell.Goals as goal
-
-pub returns : goal.returns
-returns c = record { enough = influences_are_enough; single = influences_are_single; nested = influences_nest }

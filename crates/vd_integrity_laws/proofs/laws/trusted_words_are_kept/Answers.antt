@@ -1,5 +1,0 @@
-use Rattle.vd_integrity_laws.proofs.Theorem.{trusted_is_kept}
-use Rattle.vd_integrity_laws.proofs.laws.trusted_words_are_kept.Goals as goal
-
-pub returns : goal.returns
-returns c = λ p l well satisfies. trusted_is_kept p l well satisfies

@@ -1,5 +1,0 @@
-use Rattle.vd_integrity_laws.proofs.Theorem.{formula_is_trust, against_is_trust}
-use Rattle.vd_integrity_laws.proofs.laws.who_trusts.Goals as goal
-
-pub returns : goal.returns
-returns c = record { formulas = formula_is_trust; attackers = against_is_trust }

@@ -1,6 +1,0 @@
-pub mod Front
-mod Authorities
-mod Fitting
-mod Rights
-mod Walk
-mod Systems

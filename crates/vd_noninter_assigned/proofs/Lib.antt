@@ -1,7 +1,0 @@
-pub mod Front
-mod Clear
-mod Slots
-mod Places
-mod Words
-mod Theorem
-mod Examples

@@ -1,4 +1,0 @@
-pub mod Front
-mod Runs
-mod Labels
-mod Differences

@@ -1,8 +1,0 @@
-use Rattle.vd_noninter_difference.proofs.Differences.{first_is, differs_exactly}
-use Rattle.vd_noninter_difference.proofs.laws.differences_are_exact.Goals as goal
-
-pub returns-clause-first : goal.returns-clause-first
-returns-clause-first c = first_is
-
-pub returns-clause-exact : goal.returns-clause-exact
-returns-clause-exact c = differs_exactly

@@ -1,7 +1,0 @@
-use Rattle.std.proofs.Common.{◌≡◌, drop}
-use Rattle.vd_noninter_difference.specs.Parts.{held_there}
-use Rattle.vd_noninter_difference.specs.Runs.{all_heard}
-use Rattle.vd_noninter_difference.proofs.listener.Listener.+named.Given as goal
-
-abbrev pub invariant-holds_named-loop-stmt : goal.invariant-holds_named-loop-stmt
-invariant-holds_named-loop-stmt l = held_there l.self (all_heard l.self (drop l.stmt-index l.body)) ≡ held_there l.self (all_heard l.self l.body)

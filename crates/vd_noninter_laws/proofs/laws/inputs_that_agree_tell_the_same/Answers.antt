@@ -1,5 +1,0 @@
-use Rattle.vd_noninter_laws.proofs.Theorem.{reads_learns}
-use Rattle.vd_noninter_laws.proofs.laws.inputs_that_agree_tell_the_same.Goals as goal
-
-pub returns : goal.returns
-returns c = reads_learns

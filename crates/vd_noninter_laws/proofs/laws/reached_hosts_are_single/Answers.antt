@@ -1,5 +1,0 @@
-use Rattle.vd_noninter_laws.proofs.Theorem.{reached_once}
-use Rattle.vd_noninter_laws.proofs.laws.reached_hosts_are_single.Goals as goal
-
-pub returns : goal.returns
-returns c = reached_once

@@ -1,0 +1,20 @@
+pub mod Front
+mod Clear
+mod Slots
+mod Places
+mod Words
+mod Theorem
+mod Examples
+mod Keeping
+mod Assigned
+mod Runs
+mod Labels
+mod Differences
+mod Blocks
+mod NoninterRegistersExamples
+mod Fits
+mod Hosts
+mod InClear
+mod Moved
+mod Takers
+mod NoninterRegistersTheorem

@@ -1,0 +1,11 @@
+pub mod Hearing
+pub mod Assigned
+pub mod Example
+pub mod Keeping
+pub mod IntegrityAssignedAssigned
+pub mod Runs
+pub mod Parts
+pub mod Difference
+pub mod Telling
+pub mod Told
+pub mod NoninterRegistersExample

@@ -1,5 +1,0 @@
-use Rattle.vd_noninter_registers.proofs.Theorem.{tells_what_is_heard}
-use Rattle.vd_noninter_registers.proofs.joint_runs_tell_what_is_heard.Goals as goal
-
-pub returns : goal.returns
-returns c = tells_what_is_heard

@@ -1,8 +1,0 @@
-//! Marks, as a trait: names in the folders of files that are taken once, however many runs try, and random bytes.
-#![tactic(auto)]
-
-mod marks;
-mod places;
-
-pub use marks::{Marks, MarksCall};
-pub use places::mark_at;

@@ -1,2 +1,0 @@
--- The lemmas that other crates cite.
-pub use Rattle.vd_projection_reordered.proofs.Early.{runs_alike}

@@ -1,7 +1,0 @@
-use Rattle.vd_projection_reordered.proofs.Early.{codes_come_early}
-use Rattle.vd_projection_reordered.proofs.codes.split_early.Goals as goal
-
-pub returns : goal.returns
-returns c =
-    codes_come_early c.args.program.now c.args.protocols.now c.requires c.host_count-hosts.result c.host_count-hosts.ensures
-    c.in_ok-lines.lines c.in_ok-lines-2.lines c.as_slice.result.now (c.in_ok-lines.ensures {u = tt}) (c.in_ok-lines-2.ensures {u = tt}) c.as_slice.ensures c.codes_of.result c.codes_of.ensures

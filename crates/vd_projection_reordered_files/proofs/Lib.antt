@@ -1,3 +1,0 @@
-mod Codes
-mod Shorter
-mod Files

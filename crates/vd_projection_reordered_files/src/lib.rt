@@ -1,7 +1,0 @@
-//! What is stored of the programs of hosts in an order that waits less can be read. Nothing is computed here: the clauses of the functions
-//! are laws.
-#![tactic(auto)]
-
-mod laws;
-
-pub use laws::early_programs_are_read_back;

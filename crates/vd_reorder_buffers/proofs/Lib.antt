@@ -1,6 +1,0 @@
-mod Calm
-mod Passed
-mod Early
-mod Beside
-mod Keeping
-mod Enough

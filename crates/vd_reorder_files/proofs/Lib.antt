@@ -1,5 +1,0 @@
-mod Reordered
-mod Lines
-mod Ranges
-mod Back
-mod Whole

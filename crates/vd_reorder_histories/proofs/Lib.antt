@@ -1,7 +1,0 @@
-pub mod Front
-mod Standing
-mod Falling
-mod Later
-mod HeldUp
-mod Maximal
-mod Asking

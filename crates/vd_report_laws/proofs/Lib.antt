@@ -1,5 +1,0 @@
-pub mod Front
-mod Judged
-mod Searching
-mod Picked
-mod ChoiceTold

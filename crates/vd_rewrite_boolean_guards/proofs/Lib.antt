@@ -1,5 +1,0 @@
-mod SlotKinds
-mod Beside
-mod Typed
-mod Walked
-mod Guards

@@ -1,4 +1,0 @@
-mod Asked
-mod Labelled
-mod Walked
-mod KeptLabels

@@ -1,5 +1,0 @@
-use Rattle.vd_search_certificate.proofs.Outcomes.{one_outcome}
-use Rattle.vd_search_certificate.proofs.files.files_have_one_outcome.Goals as goal
-
-pub returns : goal.returns
-returns c = one_outcome

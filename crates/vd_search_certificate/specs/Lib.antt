@@ -1,4 +1,0 @@
-pub mod Texts
-pub mod Outcomes
-pub mod Scan
-pub mod Steps

@@ -1,2 +1,0 @@
-mod Ties
-mod Copies

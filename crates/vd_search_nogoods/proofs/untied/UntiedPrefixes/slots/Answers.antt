@@ -1,7 +1,0 @@
-use Rattle.vd_search_nogoods.proofs.Ties.{untied_bounded}
-use Rattle.vd_search_nogoods.proofs.untied.UntiedPrefixes.slots.Goals as goal
-
-pub returns-clause-bounded : goal.returns-clause-bounded
-returns-clause-bounded g c =
-    let p = c.args.self.now in
-    untied_bounded (g.P.Prefixes.tree p.inner) p.most p.passed p.costly c.slots.ensures.bounded

@@ -1,6 +1,0 @@
--- The lemmas that other crates cite.
-pub use Rattle.vd_source_ll1.proofs.OneTree.{makes_derives}
-pub use Rattle.vd_source_ll1.proofs.Extra.{absent, starts_absent}
-pub use Rattle.vd_source_ll1.proofs.Readings.{begin, collects_end, collects_first, collects_more, collects_stop, into_left, into_right, into_sym, last, last_none, last_read, next, next_open, next_read, read_left_out, read_tok, stop_first, stop_here, stop_open, stops_tok}
-pub use Rattle.vd_source_ll1.proofs.Factor.{b-under, begins_to, derives_to, under}
-pub use Rattle.vd_source_ll1.proofs.Lawful.{exact, fronts, only_tree, texts_trees}

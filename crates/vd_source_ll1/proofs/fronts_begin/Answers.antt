@@ -1,5 +1,0 @@
-use Rattle.vd_source_ll1.proofs.Lawful.{fronts}
-use Rattle.vd_source_ll1.proofs.fronts_begin.Goals as goal
-
-pub returns : goal.returns
-returns g c = λ rule F E n ll1 es h ts us. fronts _ rule F E n ll1 es h ts us

@@ -1,5 +1,0 @@
-use Rattle.vd_source_ll1.proofs.Lawful.{exact}
-use Rattle.vd_source_ll1.proofs.machine_is_exact.Goals as goal
-
-pub returns : goal.returns
-returns g c = λ rule F E n ll1 es h ts. exact _ rule F E n ll1 es h ts

@@ -1,5 +1,0 @@
-pub mod Grammar
-pub mod Machine
-pub mod Trees
-pub mod Laws
-pub mod Reading

@@ -1,7 +1,0 @@
-use Rattle.std.proofs.Common.{◌≡◌, ◌++◌, drop}
-use Rattle.vd_source_spelling.specs.Spelled.{spelled}
-use Rattle.vd_source_spelling.proofs.spelling.spelled.Given as goal
-
--- the kinds that are left complete the text so far
-abbrev pub invariant-loop-kind : goal.invariant-loop-kind
-invariant-loop-kind l = l.text ++ spelled (drop l.kind-index l.kinds) ≡ spelled l.kinds

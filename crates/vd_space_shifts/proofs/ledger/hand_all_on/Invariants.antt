@@ -1,5 +1,0 @@
-use Rattle.vd_space_shifts.specs.Ledger.{IsHandedOn}
-use Rattle.vd_space_shifts.proofs.ledger.hand_all_on.Given as goal
-
-abbrev pub invariant-loop-at : goal.invariant-loop-at
-invariant-loop-at l = IsHandedOn l.problem l.at l.ledger

@@ -1,7 +1,0 @@
-use Rattle.std.proofs.Common.{arith}
-use Rattle.vd_space_shifts.proofs.rows.given_at.Goals as goal
-
-pub overflow_add-result : goal.overflow_add-result
-overflow_add-result c =
-    let amount = c.requires.taken c.args.place in
-    omega (arith, amount, c.amount_at-amount.ensures, c.in-Some.ensures.fits)

@@ -1,6 +1,0 @@
-use Rattle.std.proofs.Common.{◌≡◌}
-use Rattle.vd_space_shifts.specs.Rows.{given_at, least_number}
-use Rattle.vd_space_shifts.proofs.rows.given_from.Given as goal
-
-abbrev pub invariant-loop-place : goal.invariant-loop-place
-invariant-loop-place l = l.least ≡ least_number l.place (given_at l.list l.weight l.targets l.taken l.from)

@@ -1,6 +1,0 @@
-use Rattle.std.proofs.Common.{◌≡◌, map, take}
-use Rattle.vd_space_shifts.specs.Terms.{candidates_of}
-use Rattle.vd_space_shifts.proofs.terms.all_candidates.Given as goal
-
-abbrev pub invariant-loop-making : goal.invariant-loop-making
-invariant-loop-making l = l.candidates ≡ map (candidates_of l.problem) (take l.making-index l.problem.slots)

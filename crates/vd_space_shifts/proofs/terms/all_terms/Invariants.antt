@@ -1,6 +1,0 @@
-use Rattle.std.proofs.Common.{drop}
-use Rattle.vd_space_shifts.specs.Terms.{AreCosts}
-use Rattle.vd_space_shifts.proofs.terms.all_terms.Given as goal
-
-abbrev pub invariant-loop-at : goal.invariant-loop-at
-invariant-loop-at l = AreCosts l.problem (drop l.at l.problem.outputs) l.terms

@@ -1,9 +1,0 @@
-use Rattle.std.proofs.Common.{◌≡◌, take}
-use Rattle.vd_space_terms.specs.Sums.{AreSmallShifts, sums_of}
-use Rattle.vd_space_terms.proofs.sums.shift_sums.Given as goal
-
-abbrev pub invariant-loop-shift : goal.invariant-loop-shift
-invariant-loop-shift l = record {
-  sums : l.sums.items ≡ sums_of l.uses l.rows l.count l.places (take l.shift-index l.shifts);
-  small : AreSmallShifts (take l.shift-index l.shifts);
-}

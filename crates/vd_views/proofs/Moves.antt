@@ -1,0 +1,280 @@
+-- The moves of the suite: a host is told the word where it comes to have it in clear, and else nothing openly but own words.
+use Rattle.std.proofs.Common.{◌≡◌, ◌≢◌, ℕ, ◌<◌, nat_eq, Bool, true, false, if◌then◌else◌, IsTrue, is_some, List, [], ◌∷◌, ◌++◌, ◌⊎◌, inl, inr, refl, sym, subst, subst₂}
+use Rattle.std.specs.Prelude.{map, slice_index}
+use Rattle.vd_base.specs.declared.ids.HostId.{HostId}
+use Rattle.vd_base.specs.declared.protocols.HostSet.{HostSet}
+use Rattle.vd_base.specs.declared.protocols.Proto.{Proto}
+use Rattle.vd_base.specs.declared.protocols.Proto.TheVariants.{Local, Rep, Commit, Add, Xor}
+use Rattle.vd_base.specs.declared.operations.Op.TheVariants as op
+use Rattle.vd_base.specs.HostSets.{host, same_host, is_pair}
+use Rattle.vd_base.specs.Moves.{move_if, same_hosts, is_either}
+use Rattle.vd_base.specs.Holders.{holders, is_among}
+use Rattle.vd_execution.specs.declared.instructions.Reg.{Reg}
+use Rattle.vd_execution.specs.declared.instructions.Action.TheVariants as action
+use Rattle.vd_execution.specs.World.{Tape}
+use Rattle.vd_execution.specs.Joint.{Hosts}
+use Rattle.vd_execution.specs.Gadgets.{Sharing, BySums, ByXors, Gadget, Alone, Tells}
+use Rattle.vd_duet.specs.Builder.{next_at, taken}
+use Rattle.vd_duet.specs.Calls.{Places, hosts_of, Made}
+use Rattle.vd_duet.specs.Laws.{IsHost, IsReady, Copies, Operand}
+use Rattle.vd_duet.proofs.Front.{taken_other}
+use Rattle.vd_clear.specs.Copies.{clear_calls, passed, told, compared, adopted, first_register, shown, each_made}
+use Rattle.vd_clear.proofs.Front.{copies_of}
+use Rattle.vd_backend_sharing.specs.declared.shares.Shares.{Shares}
+use Rattle.vd_backend_sharing.specs.PairCalls.{adopted_shares, shares_of, split_off, exchanged, shared_from, opened_by, shown_at, places_at}
+use Rattle.vd_backend_sharing.proofs.Front.{Parts, parts_of}
+use Rattle.vd_words.specs.AddCalls.{add_serves, add_apply}
+use Rattle.vd_backend_sharing.specs.Gates.{gates_of}
+use Rattle.vd_bits.specs.BitCalls.{circuit_shares, computed}
+use Rattle.vd_circuit.specs.CircuitCalls.{circuit_serves}
+use Rattle.vd_convert.specs.Convert.{masked_parts, to_xor_made, drawn, finished, to_add_made}
+use Rattle.vd_split.specs.Suite.{Ready, Operand as AnyOperand}
+use Rattle.vd_split.proofs.Front.{and_left, and_right, or_cases}
+use Rattle.vd_backend_laws.specs.Moves.{only}
+use Rattle.vd_backend_laws.specs.Parts.{Parts as SlotParts, has_back_end, back_end, suite_calls}
+use Rattle.vd_backend_laws.specs.Suite.{IsOver, joins}
+use Rattle.vd_backend_laws.proofs.Front.{M, S, ready_at, operand_at, sole, equal_of, in_order, ordered_differ, no_back_end, members_of_pair}
+use Rattle.vd_views.specs.Sides.{AreKin, Telling, Each, IsPlain, HasClear}
+use Rattle.vd_views.proofs.Sides.{each_append, all_plain, telling_quiet}
+use Rattle.vd_views.proofs.ViewsBackendsCalls.{AreQuiet, gates_quiet}
+use Rattle.vd_views.proofs.Clear.{passed_tells, shown_tells, spread_tells}
+use Rattle.vd_views.proofs.Pairs.{shown_tells as pair_shown, all_shown_tells}
+use Rattle.vd_views.proofs.ToSums.{to_add_tells}
+
+-- ---- what moves are made of
+
+share_quiet : (s : Sharing) (a b from : HostId) (x : Reg) (next : List ℕ) → AreQuiet (shared_from s a b from x next).gadgets
+share_quiet s a b from x next = at (nat_eq from.0 a.0)
+  where
+    at : (z : Bool) → AreQuiet (if z then split_off s a b x next else exchanged (split_off s b a x next)).gadgets
+    at true = (tt, (tt, tt))
+    at false = (tt, (tt, tt))
+
+to_xor_quiet : (a b : HostId) (x : Places) (next : List ℕ) → AreQuiet (to_xor_made a b x next).gadgets
+to_xor_quiet a b x next = (tt, (tt, (tt, gates_quiet a b (gates_of op.Add) _ (masked_parts a b (shares_of x) next).next)))
+
+abbrev pub ArePlain : List Gadget → Type 0
+ArePlain gs = Each IsPlain gs
+
+each_plain : (f : HostId → List ℕ → Made Reg) → ((k : HostId) (next : List ℕ) → ArePlain (f k next).gadgets) → (hs : List HostId) (next : List ℕ) → ArePlain (each_made f hs next).gadgets
+each_plain f q [] next = tt
+each_plain f q (k ∷ hs) next = each_append IsPlain (f k next).gadgets (each_made f hs (f k next).next).gadgets (q k next) (each_plain f q hs (f k next).next)
+
+passed_plain : (a : HostId) (x : Reg) (k : HostId) (next : List ℕ) → ArePlain (passed a x k next).gadgets
+passed_plain a x k next = at (nat_eq a.0 k.0)
+  where
+    at : (b : Bool) → let one : Made Reg = if b then record { given = x; gadgets = []; next = next } else record { given = next_at next k; gadgets = Tells a (x ∷ []) k (next_at next k ∷ []) ∷ []; next = taken k 1 next } in ArePlain one.gadgets
+    at true = tt
+    at false = (tt, tt)
+
+told_plain : (x : Places) (k : HostId) (next : List ℕ) → ArePlain (told x k next).gadgets
+told_plain [] k next = tt
+told_plain (q ∷ x) k next = (tt, told_plain x k (taken k 1 next))
+
+compared_plain : (k : HostId) (rs : List Reg) → ArePlain (compared k rs)
+compared_plain k [] = tt
+compared_plain k (r ∷ rs) = each k r rs
+  where
+    each : (k : HostId) (r : Reg) (rs : List Reg) → ArePlain (map (λ s. Alone k (action.Same r s)) rs)
+    each k r [] = tt
+    each k r (s ∷ rs) = (tt, each k r rs)
+
+shown_plain : (x : Places) (k : HostId) (next : List ℕ) → ArePlain (shown x k next).gadgets
+shown_plain x k next = at (is_among (hosts_of x) k.0)
+  where
+    at : (b : Bool)
+        → let one : Made Reg = if b then adopted x k next else record { given = first_register (told x k next).given; gadgets = (told x k next).gadgets ++ compared k (told x k next).given; next = (told x k next).next } in
+        ArePlain one.gadgets
+    at true = tt
+    at false = each_append IsPlain (told x k next).gadgets (compared k (told x k next).given) (told_plain x k next) (compared_plain k (told x k next).given)
+
+opened_plain : (s : Sharing) (a b : HostId) (x : Shares) (k : HostId) (next : List ℕ) → ArePlain (shown_at s a b x k next).gadgets
+opened_plain s a b x k next = at (nat_eq k.0 a.0)
+  where
+    at : (z : Bool) → ArePlain (if z then opened_by s b x.second a x.first next else opened_by s a x.first b x.second next).gadgets
+    at true = (tt, (tt, tt))
+    at false = (tt, (tt, tt))
+
+to_add_plain : (a b : HostId) (x : Places) (next : List ℕ) → ArePlain (to_add_made a b x next).gadgets
+to_add_plain a b x next =
+    let pair = drawn a b (shares_of x) next in
+    let rest = computed a b op.Sub (x ∷ places_at a b pair.given.1 ∷ []) pair.next in
+    (tt, each_append IsPlain rest.gadgets (finished a b (shares_of rest.given) pair.given.0 rest.next).gadgets (all_plain rest.gadgets (gates_quiet a b (gates_of op.Sub) _ pair.next)) (tt, (tt, (tt, (tt, (tt, tt))))))
+
+-- no host takes an own word by itself in a move
+pub move_plain : (hosts : ℕ) (p q : Proto) → has_back_end p ≡ true → has_back_end q ≡ true → (x : SlotParts) (next : List ℕ) → ArePlain ((suite_calls hosts).move p q x next).acts
+move_plain hosts (Commit u v) q e f x next = no_back_end e
+move_plain hosts (Local a) (Local k) e f x next = each_plain (passed a (only x.at)) (passed_plain a (only x.at)) (holders (Local k)) next
+move_plain hosts (Local a) (Rep set) e f x next = each_plain (passed a (only x.at)) (passed_plain a (only x.at)) (holders (Rep set)) next
+move_plain hosts (Local a) (Commit u v) e f x next = no_back_end f
+move_plain hosts (Local a) (Add u v) e f x next = all_plain (shared_from BySums u v a (only x.at) next).gadgets (share_quiet BySums u v a (only x.at) next)
+move_plain hosts (Local a) (Xor u v) e f x next = all_plain (shared_from ByXors u v a (only x.at) next).gadgets (share_quiet ByXors u v a (only x.at) next)
+move_plain hosts (Rep set) (Local k) e f x next = shown_plain x.at k next
+move_plain hosts (Rep set) (Rep other) e f x next = each_plain (shown x.at) (shown_plain x.at) (holders (Rep other)) next
+move_plain hosts (Rep set) (Commit u v) e f x next = no_back_end f
+move_plain hosts (Rep set) (Add u v) e f x next = (tt, tt)
+move_plain hosts (Rep set) (Xor u v) e f x next = (tt, tt)
+move_plain hosts (Add a b) (Local k) e f x next = opened_plain BySums a b (shares_of x.at) k next
+move_plain hosts (Add a b) (Rep set) e f x next = (tt, (tt, (tt, (tt, tt))))
+move_plain hosts (Add a b) (Commit u v) e f x next = no_back_end f
+move_plain hosts (Add a b) (Add u v) e f x next = tt
+move_plain hosts (Add a b) (Xor u v) e f x next = all_plain (to_xor_made u v x.at next).gadgets (to_xor_quiet u v x.at next)
+move_plain hosts (Xor a b) (Local k) e f x next = opened_plain ByXors a b (shares_of x.at) k next
+move_plain hosts (Xor a b) (Rep set) e f x next = (tt, (tt, (tt, (tt, tt))))
+move_plain hosts (Xor a b) (Commit u v) e f x next = no_back_end f
+move_plain hosts (Xor a b) (Add u v) e f x next = to_add_plain u v x.at next
+move_plain hosts (Xor a b) (Xor u v) e f x next = tt
+
+-- ---- what joins
+
+if_holds : (b : Bool) (cost : ℕ) → IsTrue (is_some (move_if b cost)) → b ≡ true
+if_holds true cost e = refl
+if_holds false cost e = cc
+
+same_two : (a b c d : HostId) (cost : ℕ) → IsTrue (is_some (move_if (same_hosts a b c d) cost)) → (a.0 ≡ c.0) × (b.0 ≡ d.0)
+same_two a b c d cost j =
+    let e = if_holds (same_hosts a b c d) cost j in
+    (equal_of a.0 c.0 (and_left (same_host a c) (same_host b d) e), equal_of b.0 d.0 (and_right (same_host a c) (same_host b d) e))
+
+-- a word is opened to the first host, or to the second
+opened_to : (k a b : HostId) → IsTrue (is_some (move_if (is_either k a b) 5)) → nat_eq k.0 a.0 ≡ false → k.0 ≡ b.0
+opened_to k a b j other = at (or_cases (same_host k a) (same_host k b) (if_holds (is_either k a b) 5 j))
+  where
+    opposite : (z : Bool) → z ≡ true → z ≡ false → ⊥
+    opposite true p q = cc
+    opposite false p q = cc
+
+    at : (same_host k a ≡ true) ⊎ (same_host k b ≡ true) → k.0 ≡ b.0
+    at (inl i) = absurd (opposite (same_host k a) i other)
+    at (inr i) = equal_of k.0 b.0 i
+
+-- both hosts are members of their pair
+of_pair : (set : HostSet) (a b : HostId) → (a.0 < b.0) × (b.0 < 8) → IsTrue (is_some (move_if (is_pair set a b) 10)) → (h : ℕ) → (a.0 ≡ h) ⊎ (b.0 ≡ h) → IsHost (holders (Rep set)) h
+of_pair set a b o j h i = subst (λ (l : List HostId). IsHost l h) (sym (members_of_pair set a b o (if_holds (is_pair set a b) 10 j))) (at i)
+  where
+    at : (a.0 ≡ h) ⊎ (b.0 ≡ h) → IsHost (a ∷ b ∷ []) h
+    at (inl e) = inl (sym e)
+    at (inr e) = inr (inl (sym e))
+
+-- ---- every move
+
+module _ (h : ℕ) (t y : Tape) (kin : AreKin h t y) (inputs others : ℕ → List ℕ) (hosts : ℕ) where
+  -- a slot's word in both runs
+  pub record AreMoved (p : Proto) (x : SlotParts) (next : List ℕ) (w v : Hosts) (c d : ℕ) : Type 0 where
+    pub ready : Ready (M t inputs hosts) (S t inputs hosts) next w
+    pub ready_too : Ready (M y others hosts) (S y others hosts) next v
+    pub first : AnyOperand (M t inputs hosts) (S t inputs hosts) next w p x c
+    pub second : AnyOperand (M y others hosts) (S y others hosts) next v p x d
+
+  module _ (p : Proto) (e : has_back_end p ≡ true) (over : IsOver hosts p) (is : (back_end p).proto ≡ p) (x : SlotParts) (next : List ℕ) (w v : Hosts) (c d : ℕ) (moved : AreMoved p x next w v c d) where
+    at_first : Operand (back_end p) next w x.at c
+    at_first = operand_at t inputs hosts (back_end p) next w p x c e is moved.first
+
+    at_second : Operand (back_end p) next v x.at d
+    at_second = operand_at y others hosts (back_end p) next v p x d e is moved.second
+
+    ready_first : IsReady (back_end p) t next w
+    ready_first = ready_at t inputs hosts kin.first (back_end p) next w p is over moved.ready
+
+    ready_second : IsReady (back_end p) y next v
+    ready_second = ready_at y others hosts kin.second (back_end p) next v p is over moved.ready_too
+
+  -- one host has the word
+  module _ (a : HostId) (over : IsOver hosts (Local a)) (x : SlotParts) (next : List ℕ) (w v : Hosts) (c d : ℕ) (moved : AreMoved (Local a) x next w v c d) where
+    held : ((w a.0).registers (only x.at).0 ≡ c) × ((v a.0).registers (only x.at).0 ≡ d)
+    held =
+        let o = at_first (Local a) refl over refl x next w v c d moved in
+        let o' = at_second (Local a) refl over refl x next w v c d moved in
+        ((sole (clear_calls (Local a)) a next w x.at c refl o.stands.at o).here, (sole (clear_calls (Local a)) a next v x.at d refl o'.stands.at o').here)
+
+    from_one : (q : Proto) → has_back_end q ≡ true → (HasClear h q → c ≡ d) → Telling h t y ((suite_calls hosts).move (Local a) q x next).acts w v
+    from_one (Local k) f same = passed_tells h t y kin a (only x.at) c d (holders (Local k)) next w v held (λ i. same (alone i))
+      where
+        alone : (h ≡ k.0) ⊎ ⊥ → h ≡ k.0
+        alone (inl e) = e
+        alone (inr e) = absurd e
+    from_one (Rep set) f same = passed_tells h t y kin a (only x.at) c d (holders (Rep set)) next w v held same
+    from_one (Commit u z) f same = no_back_end f
+    from_one (Add u z) f same = telling_quiet h t y kin (shared_from BySums u z a (only x.at) next).gadgets w v (share_quiet BySums u z a (only x.at) next)
+    from_one (Xor u z) f same = telling_quiet h t y kin (shared_from ByXors u z a (only x.at) next).gadgets w v (share_quiet ByXors u z a (only x.at) next)
+
+  -- copies
+  module _ (set : HostSet) (over : IsOver hosts (Rep set)) (x : SlotParts) (next : List ℕ) (w v : Hosts) (c d : ℕ) (moved : AreMoved (Rep set) x next w v c d) where
+    copied : Copies w x.at c
+    copied = copies_of (Rep set) tt w x.at c (at_first (Rep set) refl over refl x next w v c d moved).stands
+
+    copied_too : Copies v x.at d
+    copied_too = copies_of (Rep set) tt v x.at d (at_second (Rep set) refl over refl x next w v c d moved).stands
+
+    from_copies : (q : Proto) → has_back_end q ≡ true → (HasClear h q → c ≡ d) → Telling h t y ((suite_calls hosts).move (Rep set) q x next).acts w v
+    from_copies (Local k) f same = (shown_tells h t y kin c d x.at k next w v copied copied_too (λ i. same (sym i))).tells
+    from_copies (Rep other) f same = spread_tells h t y kin c d x.at (holders (Rep other)) next w v copied copied_too same
+    from_copies (Commit u z) f same = no_back_end f
+    from_copies (Add u z) f same =
+        let gs : List Gadget = (adopted_shares u z x.at next).gadgets in
+        let quiet : AreQuiet gs = (tt, tt) in
+        telling_quiet h t y kin gs w v quiet
+    from_copies (Xor u z) f same =
+        let gs : List Gadget = (adopted_shares u z x.at next).gadgets in
+        let quiet : AreQuiet gs = (tt, tt) in
+        telling_quiet h t y kin gs w v quiet
+
+  second_low : (a b : HostId) → a.0 ≢ b.0 → (next : List ℕ) (r : ℕ) → r < slice_index next b.0 → r < slice_index (taken a 2 next) b.0
+  second_low a b apart next r lt = subst (λ z. r < z) (sym (taken_other a 2 next b.0 (λ e. apart (sym e)))) lt
+
+  -- sums
+  module _ (a b : HostId) (over : IsOver hosts (Add a b)) (x : SlotParts) (next : List ℕ) (w v : Hosts) (c d : ℕ) (moved : AreMoved (Add a b) x next w v c d) where
+    summed : Parts BySums a b next w (shares_of x.at) c
+    summed = parts_of a b add_serves (add_apply a b) BySums next w x.at c (at_first (Add a b) refl over refl x next w v c d moved)
+
+    summed_too : Parts BySums a b next v (shares_of x.at) d
+    summed_too = parts_of a b add_serves (add_apply a b) BySums next v x.at d (at_second (Add a b) refl over refl x next w v c d moved)
+
+    from_sums : (q : Proto) → has_back_end q ≡ true → IsTrue (joins (Add a b) q) → (HasClear h q → c ≡ d) → Telling h t y ((suite_calls hosts).move (Add a b) q x next).acts w v
+    from_sums (Local k) f j same =
+        pair_shown h t y kin BySums a b (ordered_differ a b over.ordered) (shares_of x.at) c d k (opened_to k a b j) next w v summed.word summed_too.word (λ i. same (sym i))
+    from_sums (Rep set) f j same =
+        let apart = ordered_differ a b over.ordered in
+        all_shown_tells h t y kin BySums a b apart (shares_of x.at) c d next (second_low a b apart next (shares_of x.at).second.0 summed.second_low) w v summed.word summed_too.word
+        (λ i. same (of_pair set a b (in_order a b over.ordered) j h i))
+    from_sums (Commit u z) f j same = no_back_end f
+    from_sums (Add u z) f j same = λ both tidy hides. tt
+    from_sums (Xor u z) f j same = telling_quiet h t y kin (to_xor_made u z x.at next).gadgets w v (to_xor_quiet u z x.at next)
+
+  -- exclusive or
+  module _ (a b : HostId) (over : IsOver hosts (Xor a b)) (x : SlotParts) (next : List ℕ) (w v : Hosts) (c d : ℕ) (moved : AreMoved (Xor a b) x next w v c d) where
+    xored : Parts ByXors a b next w (shares_of x.at) c
+    xored = parts_of a b circuit_serves (circuit_shares a b) ByXors next w x.at c (at_first (Xor a b) refl over refl x next w v c d moved)
+
+    xored_too : Parts ByXors a b next v (shares_of x.at) d
+    xored_too = parts_of a b circuit_serves (circuit_shares a b) ByXors next v x.at d (at_second (Xor a b) refl over refl x next w v c d moved)
+
+    converted : Telling h t y (to_add_made a b x.at next).gadgets w v
+    converted =
+        let o = at_first (Xor a b) refl over refl x next w v c d moved in
+        let o' = at_second (Xor a b) refl over refl x next w v c d moved in
+        let r = ready_first (Xor a b) refl over refl x next w v c d moved in
+        let r' = ready_second (Xor a b) refl over refl x next w v c d moved in
+        to_add_tells a b (ordered_differ a b over.ordered) next x.at h t y kin w v (record { deal = r.deal; sound = r.sound; known = r.known }) (record { deal = r'.deal; sound = r'.sound; known = r'.known }) c d
+        (record { below = o.below; stands = record { at = o.stands.at; word = o.stands.word } }) (record { below = o'.below; stands = record { at = o'.stands.at; word = o'.stands.word } })
+
+    from_xors : (q : Proto) → has_back_end q ≡ true → IsTrue (joins (Xor a b) q) → (HasClear h q → c ≡ d) → Telling h t y ((suite_calls hosts).move (Xor a b) q x next).acts w v
+    from_xors (Local k) f j same =
+        pair_shown h t y kin ByXors a b (ordered_differ a b over.ordered) (shares_of x.at) c d k (opened_to k a b j) next w v xored.word xored_too.word (λ i. same (sym i))
+    from_xors (Rep set) f j same =
+        let apart = ordered_differ a b over.ordered in
+        all_shown_tells h t y kin ByXors a b apart (shares_of x.at) c d next (second_low a b apart next (shares_of x.at).second.0 xored.second_low) w v xored.word xored_too.word
+        (λ i. same (of_pair set a b (in_order a b over.ordered) j h i))
+    from_xors (Commit u z) f j same = no_back_end f
+    from_xors (Add u z) f j same =
+        let e = same_two a b u z 210 j in
+        subst₂ (λ (m n : ℕ). Telling h t y (to_add_made (host m) (host n) x.at next).gadgets w v) e.0 e.1 converted
+    from_xors (Xor u z) f j same = λ both tidy hides. tt
+
+  pub move_tells : (p q : Proto) → has_back_end p ≡ true → has_back_end q ≡ true → IsOver hosts p → IsTrue (joins p q) → (x : SlotParts) (next : List ℕ) (w v : Hosts) (c d : ℕ) → AreMoved p x next w v c d
+      → (HasClear h q → c ≡ d) → Telling h t y ((suite_calls hosts).move p q x next).acts w v
+  move_tells (Local a) q e f over j x next w v c d moved same = from_one a over x next w v c d moved q f same
+  move_tells (Rep set) q e f over j x next w v c d moved same = from_copies set over x next w v c d moved q f same
+  move_tells (Commit u z) q e f over j x next w v c d moved same = no_back_end e
+  move_tells (Add a b) q e f over j x next w v c d moved same = from_sums a b over x next w v c d moved q f j same
+  move_tells (Xor a b) q e f over j x next w v c d moved same = from_xors a b over x next w v c d moved q f j same

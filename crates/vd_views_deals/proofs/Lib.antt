@@ -1,5 +1,0 @@
-pub mod Front
-mod Lists
-mod Hosts
-mod Counted
-mod Files

@@ -1,4 +1,0 @@
-mod Calls
-mod Product
-mod Deals
-mod Numbers

@@ -1,8 +1,0 @@
-use Rattle.vd_views_programs.proofs.Examples.{worked, worked_conversion}
-use Rattle.vd_views_programs.proofs.worked_excuse.Goals as goal
-
-pub returns-clause-product : goal.returns-clause-product
-returns-clause-product c = worked
-
-pub returns-clause-conversion : goal.returns-clause-conversion
-returns-clause-conversion c = worked_conversion

@@ -1,8 +1,0 @@
-use Rattle.vd_world_report.proofs.Told.{programs_tell, sources_tell}
-use Rattle.vd_world_report.proofs.laws.sources_tell.Goals as goal
-
-pub returns-clause-programs : goal.returns-clause-programs
-returns-clause-programs c = programs_tell
-
-pub returns-clause-sources : goal.returns-clause-sources
-returns-clause-sources c = sources_tell

@@ -1,7 +1,0 @@
-use Rattle.vd_world_report.specs.Reports.{lines_of}
-use Rattle.std.proofs.Common.{◌≡◌}
-use Rattle.vd_world.specs.Hosts.{supply_of, world_of}
-use Rattle.vd_world_report.proofs.reporting.lines.Given as goal
-
-abbrev pub invariant-loop-number : goal.invariant-loop-number
-invariant-loop-number l = l.lines ≡ lines_of (supply_of l.world) (world_of l.world) l.number

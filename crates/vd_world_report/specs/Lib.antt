@@ -1,6 +1,0 @@
-pub mod Supplies
-pub mod Schedules
-pub mod Reports
-pub mod Loading
-pub mod Told
-pub mod Played
