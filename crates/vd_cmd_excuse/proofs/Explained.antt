@@ -32,11 +32,11 @@ use Rattle.vd_cmd_choice.specs.Choice.{IsSelected}
 use Rattle.vd_views.specs.Explained.{IsOfTwo, plan_of}
 use Rattle.vd_machine.specs.Dealt.{dealt_count, counts_of}
 use Rattle.vd_views.specs.Files.{tape_of}
-use Rattle.vd_equivocation.specs.Short.{short_kind, end_of, TakesNoMore}
-use Rattle.vd_equivocation.proofs.Front.{short_kinds_are_exact}
-use Rattle.vd_equivocation.specs.Excuse.{AreAsked, IsExcused, fault_of}
+use Rattle.vd_excuse.specs.Short.{short_kind, end_of, TakesNoMore}
+use Rattle.vd_excuse.proofs.Front.{short_kinds_are_exact}
+use Rattle.vd_excuse.specs.Excuse.{AreAsked, IsExcused, fault_of}
 use Rattle.vd_noninter_protocols.specs.Difference.{view_difference}
-use Rattle.vd_equivocation.specs.Talk.{IsPlayable, talk}
+use Rattle.vd_excuse.specs.Talk.{IsPlayable, talk}
 use Rattle.vd_cmd_excuse.specs.declared.runs.Runs.{Runs}
 use Rattle.vd_cmd_excuse.specs.Runs.{AreRead}
 use Rattle.vd_cmd_excuse.specs.Excusing.{excuse_answer, talk_line}

@@ -17,9 +17,9 @@ use Rattle.vd_tape.specs.declared.deal_items.deal.Deal.{Deal}
 use Rattle.vd_cmd_plan.specs.declared.status.Status.{Status}
 use Rattle.vd_cmd_plan.specs.declared.status.Status.TheVariants.{NotTwo}
 use Rattle.vd_views.specs.Explained.{plan_of}
-use Rattle.vd_equivocation.specs.Excuses.{excuse_files}
-use Rattle.vd_equivocation.specs.declared.fault.ViewFault.{ViewFault}
-use Rattle.vd_equivocation.specs.Excuse.{IsExcused, fault_at}
+use Rattle.vd_excuse.specs.Excuses.{excuse_files}
+use Rattle.vd_excuse.specs.declared.fault.ViewFault.{ViewFault}
+use Rattle.vd_excuse.specs.Excuse.{IsExcused, fault_at}
 use Rattle.vd_cmd_excuse.specs.declared.runs.Runs.{Runs}
 use Rattle.vd_cmd_excuse.specs.Excusing.{as_excused, as_two, commitment_in, excused_for}
 

@@ -26,11 +26,11 @@ use Rattle.vd_cmd_choice.specs.Choice.{choice_of_then, no_list}
 use Rattle.vd_cmd_files.specs.Outcomes.{ReplayOutcomes}
 use Rattle.vd_cmd_files.specs.Deals.{as_consistent}
 use Rattle.vd_views.specs.Explained.{plan_of}
-use Rattle.vd_equivocation.specs.Excuses.{excuse_files}
-use Rattle.vd_equivocation.specs.declared.fault.ViewFault.{ViewFault}
-use Rattle.vd_equivocation.specs.declared.fault.ViewFault.TheVariants as view_fault
-use Rattle.vd_equivocation.specs.Excuse.{fault_at}
-use Rattle.vd_equivocation.specs.Talk.{talk}
+use Rattle.vd_excuse.specs.Excuses.{excuse_files}
+use Rattle.vd_excuse.specs.declared.fault.ViewFault.{ViewFault}
+use Rattle.vd_excuse.specs.declared.fault.ViewFault.TheVariants as view_fault
+use Rattle.vd_excuse.specs.Excuse.{fault_at}
+use Rattle.vd_excuse.specs.Talk.{talk}
 use Rattle.vd_cmd_excuse.specs.declared.runs.Runs.{Runs}
 use Rattle.vd_cmd_excuse.specs.Runs.{runs_then}
 

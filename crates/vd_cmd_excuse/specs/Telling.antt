@@ -19,7 +19,7 @@ use Rattle.vd_cmd_labels.specs.Sources.{HoldsSource}
 use Rattle.vd_cmd_choice.specs.Choice.{IsSelected}
 use Rattle.vd_views.specs.Explained.{IsOfTwo, plan_of, AgreeFor}
 use Rattle.vd_views.specs.Files.{IsExcuse}
-use Rattle.vd_equivocation.specs.Talk.{talk}
+use Rattle.vd_excuse.specs.Talk.{talk}
 use Rattle.vd_cmd_excuse.specs.declared.runs.Runs.{Runs}
 use Rattle.vd_cmd_excuse.specs.Runs.{HoldRuns}
 use Rattle.vd_cmd_excuse.specs.Excusing.{talk_line}

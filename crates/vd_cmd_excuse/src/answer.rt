@@ -4,7 +4,7 @@ ghost use Rattle.std.specs.Prelude.{◌≡◌, ◌<◌, ◌-◌, IfOk};
 ghost use Rattle.vd_projection.specs.Programs.{CanRunAt};
 ghost use Rattle.vd_cmd_plan.specs.Plans.{ended};
 ghost use Rattle.vd_cmd_deal.specs.Dealing.{deal_files};
-ghost use Rattle.vd_equivocation.specs.Talk.{IsPlayable, talk};
+ghost use Rattle.vd_excuse.specs.Talk.{IsPlayable, talk};
 ghost use Rattle.vd_cmd_excuse.specs.Excusing.{talk_line};
 
 use std::alloc::{AllocError, Global};
@@ -12,7 +12,7 @@ use vd_base::{Bytes, HostId, Inputs, Names, Proto};
 use vd_cmd_deal::files_of;
 use vd_cmd_plan::{Answer, Status};
 use vd_core::Program;
-use vd_equivocation::talk;
+use vd_excuse::talk;
 use vd_report::{name_of, push_words_line};
 use vd_tape::{Deal, Deals};
 

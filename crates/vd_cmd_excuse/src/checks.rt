@@ -7,7 +7,7 @@ ghost use Rattle.vd_projection.specs.Programs.{CanRunAt};
 ghost use Rattle.vd_views.specs.Explained.{IsOfTwo};
 ghost use Rattle.vd_backend_laws.specs.Parts.{has_back_end};
 ghost use Rattle.vd_cmd_plan.specs.Plans.{Checks};
-ghost use Rattle.vd_equivocation.specs.Excuse.{AreAsked, IsExcused};
+ghost use Rattle.vd_excuse.specs.Excuse.{AreAsked, IsExcused};
 ghost use Rattle.vd_cmd_excuse.specs.Excusing.{as_free, as_two, commitment_in, excused_for};
 
 use crate::runs::Runs;
@@ -15,7 +15,7 @@ use std::alloc::Global;
 use vd_base::{HostId, Names, Proto};
 use vd_cmd_plan::Status;
 use vd_core::Program;
-use vd_equivocation::{ViewFault, excuse};
+use vd_excuse::{ViewFault, excuse};
 use vd_tape::Deals;
 
 /// Refuses another number of hosts than two.

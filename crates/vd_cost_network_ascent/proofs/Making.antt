@@ -8,7 +8,7 @@ use Rattle.vd_search_tree.specs.declared.shift.Shift.{Shift}
 use Rattle.vd_space.specs.declared.problem.Problem.{Problem}
 use Rattle.vd_space.specs.Validity.{protocols}
 use Rattle.vd_space.specs.Arcs.{arcs}
-use Rattle.vd_cost_network_sweeps.specs.Rows.{row_in, row_of}
+use Rattle.vd_cost_network_dual.specs.Rows.{row_in, row_of}
 use Rattle.vd_cost_network_ascent.specs.Shifts.{Adds, AreArcShifts, AreShiftsOf, Puts, PutsRow, arc_shifts, net_shifts, row_shifts, shift_to}
 
 -- a place more, where the first of at least so many places are reached

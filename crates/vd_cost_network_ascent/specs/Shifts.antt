@@ -2,8 +2,8 @@
 use Rattle.std.specs.Prelude.{◌≡◌, ℕ, zero, suc, ◌<◌, ◌≤◌, Bool, true, false, List, [], ◌∷◌, ◌++◌, length, slice_index_or, ℤ, pos, negsuc, Vec}
 use Rattle.std.specs.List.{AllByRecursion, flat_map, range_with_len}
 use Rattle.vd_base.specs.Limits.{most_certificate_shifts}
-use Rattle.vd_cost_network_sweeps.specs.declared.nets.Nets.{Nets}
-use Rattle.vd_cost_network_sweeps.specs.Rows.{row_of}
+use Rattle.vd_cost_network_dual.specs.declared.nets.Nets.{Nets}
+use Rattle.vd_cost_network_dual.specs.Rows.{row_of}
 use Rattle.vd_space.specs.Arcs.{arcs}
 use Rattle.vd_search_tree.specs.declared.shift.Shift.{Shift}
 use Rattle.vd_space.specs.declared.problem.Problem.{Problem}

@@ -10,7 +10,7 @@ use crate::climbing::Climb;
 use crate::cost_network_shifts::shifts_of;
 use std::alloc::{AllocError, Global};
 use vd_base::{Items, Proto};
-use vd_cost_network_sweeps::Nets;
+use vd_cost_network_dual::Nets;
 use vd_cost_network_prefix::NetworkTables;
 use vd_protocol::protocols;
 use vd_search_tree::Shift;

@@ -5,7 +5,7 @@ ghost use Rattle.vd_space.specs.Labelled.{IsLabelled};
 use crate::cost_network_dominance::Thinned;
 use std::alloc::{AllocError, Global};
 use vd_base::Items;
-use vd_cost_network_sweeps::{
+use vd_cost_network_dual::{
     Ending, Last, Layout, Lift, Lifting, Nets, Reach, State, Tables, Witness,
 };
 use vd_cost_network_prefix::{ArcTable, NetworkTables};

@@ -12,7 +12,7 @@ use crate::cost_network_shifts::shifts_of;
 use crate::refutation::Refutation;
 use crate::walker::{Candidate, Verdict, Walker};
 use std::alloc::{AllocError, Global};
-use vd_cost_network_sweeps::UNIT;
+use vd_cost_network_dual::UNIT;
 use vd_cost_network_prefix::{NetworkPath, NetworkTables};
 use vd_search_tree::Prefixes;
 use vd_space::Problem;

@@ -3,7 +3,7 @@
 
 use crate::climbing::{Climb, WORK};
 use std::alloc::{AllocError, Global};
-use vd_cost_network_sweeps::{Lifting, Nets, Witness};
+use vd_cost_network_dual::{Lifting, Nets, Witness};
 use vd_cost_network_prefix::ArcTable;
 
 /// So many sweeps forward are made for one candidate at most, and as many backward.

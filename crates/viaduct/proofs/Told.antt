@@ -2,8 +2,8 @@
 use Rattle.std.proofs.Common.{ℕ, List, Option, Ok, Err, Result, OnOk}
 use Rattle.vd_outside.specs.Sink.{SinkView}
 use Rattle.vd_cmd_plan.specs.declared.status.Status.{Status}
-use Rattle.vd_cmd_driver.specs.Telling.{Tells, fault_lines, success_lines}
-use Rattle.vd_cmd_driver.specs.declared.telling.Reasons.{Reasons}
+use Rattle.vd_shell.specs.Telling.{Tells, fault_lines, success_lines}
+use Rattle.vd_shell.specs.declared.telling.Reasons.{Reasons}
 use Rattle.viaduct.specs.Telling.{TellsPackets, TellsReasons}
 
 pub packets_told : {E : Type 0} (sent : Option ℕ) (is_host : Option (List ℕ) → Type 0) (is_passed : Option (ℕ × ℕ) → Type 0) (host : Option (List ℕ)) (passed : Option (ℕ × ℕ)) (before now : SinkView)

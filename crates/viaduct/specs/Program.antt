@@ -14,7 +14,7 @@ use Rattle.vd_diag.specs.declared.fault.TellFault.{TellFault}
 use Rattle.vd_diag_terminal.specs.Saying.{SaysTo}
 use Rattle.vd_diag_terminal.specs.declared.telling.Destination.{Destination}
 use Rattle.vd_top.specs.Promises.{Around, Starts}
-use Rattle.vd_cmd_driver.specs.Ahead.{wanted_by}
+use Rattle.vd_shell.specs.Ahead.{wanted_by}
 
 -- The command line was run, and ended with this status; then more was said of it to the person at a terminal.
 pub record IsRun (destination : Destination) (words : List (List ℕ)) (o : Around) (status : Status) : Type 0 where

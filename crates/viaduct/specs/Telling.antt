@@ -3,9 +3,9 @@ use Rattle.std.specs.Prelude.{◌≡◌, ℕ, Bool, List, [], ◌∷◌, codes, 
 use Rattle.vd_outside.specs.Sink.{SinkView}
 use Rattle.vd_cmd_plan.specs.declared.status.Status.{Status}
 use Rattle.vd_cmd_plan.specs.declared.status.Status.TheVariants.{Ended}
-use Rattle.vd_cmd_driver.specs.Reasons.{reason_line}
-use Rattle.vd_cmd_driver.specs.Telling.{Tells, fault_lines, success_lines}
-use Rattle.vd_cmd_driver.specs.declared.telling.Reasons.{Reasons}
+use Rattle.vd_shell.specs.Reasons.{reason_line}
+use Rattle.vd_shell.specs.Telling.{Tells, fault_lines, success_lines}
+use Rattle.vd_shell.specs.declared.telling.Reasons.{Reasons}
 use Rattle.vd_diag_terminal.specs.declared.telling.Destination.{Destination}
 use Rattle.vd_diag_terminal.specs.declared.telling.Destination.TheVariants.{File, Terminal}
 use Rattle.viaduct.specs.declared.caller.Caller.{Caller}

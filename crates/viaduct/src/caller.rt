@@ -1,7 +1,7 @@
 //! Who started the program, and what that person is told besides the line of the status.
 
 ghost use Rattle.std.specs.Prelude.{◌≡◌, ℕ, List, Option, IfOk, OnOk, drop, is_some, map, option_map, string_bytes};
-ghost use Rattle.vd_cmd_driver.specs.declared.telling.Reasons.{Reasons};
+ghost use Rattle.vd_shell.specs.declared.telling.Reasons.{Reasons};
 ghost use Rattle.viaduct.specs.Telling.{IsTold, TellsPackets, TellsReasons, fault_telling, success_telling, telling_of, words_in};
 
 use crate::program::{Ending, words_of};
@@ -10,7 +10,7 @@ use vd_base::{Bytes, Texts};
 use vd_cmd_plan::Status;
 use vd_diag_terminal::Destination;
 use vd_outside::Sink;
-use vd_cmd_driver::{Reasons, tell_fault, tell_no_text, tell_success};
+use vd_shell::{Reasons, tell_fault, tell_no_text, tell_success};
 
 /// What is asked of the program, and by whom.
 #[derive(Drop)]

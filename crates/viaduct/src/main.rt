@@ -22,7 +22,7 @@ use vd_diag_terminal::Destination;
 use vd_edge::{KeptFiles, RealFiles, RealNet, RealSink, SystemDirectory, SystemSockets, Waits};
 use vd_edge_marks::RealMarks;
 use vd_edge_processes::{PARENT, REASONS, RealSpawner};
-use vd_cmd_driver::{Reasons, copy_reason, copy_text, speaker_of};
+use vd_shell::{Reasons, copy_reason, copy_text, speaker_of};
 
 /// The arguments of the program, and none where one of them is no text.
 fn arguments(rt: &(impl Env + AllocGlobal)) -> io::Result<Option<Vec<String>>> {

@@ -15,7 +15,7 @@ use vd_cmd_plan::{Status, tell};
 use vd_diag_terminal::{Destination, say_more};
 use vd_edge::{Directory, KeptFiles, RealFiles};
 use vd_outside::{Files, Marks, Net, Sink, Spawner};
-use vd_cmd_driver::read_ahead;
+use vd_shell::read_ahead;
 use vd_top::start;
 
 /// Copies of texts.

@@ -2,7 +2,7 @@
 
 use crate::cost_network_dominance::differences::Differences;
 use std::alloc::{AllocError, Global};
-use vd_cost_network_sweeps::{Network, Tables};
+use vd_cost_network_dual::{Network, Tables};
 
 /// At most so often all points are gone over again, at which a partner lost a setting.
 const ROUNDS: u32 = 8;

@@ -1,7 +1,7 @@
 //! By how much a point costs more at one setting than at another, at least.
 
 use std::alloc::{AllocError, Global};
-use vd_cost_network_sweeps::{End, Tables};
+use vd_cost_network_dual::{End, Tables};
 
 /// More than two prices differ by, in steps; where one of them is that of what cannot be done they differ by more.
 const APART: i32 = 536_870_912;

@@ -2,7 +2,7 @@
 
 use crate::cost_network_dominance::costlier::{Costlier, Thinning};
 use std::alloc::{AllocError, Global};
-use vd_cost_network_sweeps::{End, FAR, Nets, Network, Tables, number_at, settings_at};
+use vd_cost_network_dual::{End, FAR, Nets, Network, Tables, number_at, settings_at};
 use vd_cost_network_prefix::ArcTable;
 
 /// A setting that is not left, among all that its point has.

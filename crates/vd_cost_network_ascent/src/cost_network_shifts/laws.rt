@@ -2,7 +2,7 @@
 
 ghost use Rattle.std.specs.Prelude.{◌≡◌, ℕ, ◌<◌, ◌+ℤ◌};
 ghost use Rattle.vd_cost_network_ascent.specs.Shifts.{amount_in, shifts_by};
-ghost use Rattle.vd_cost_network_sweeps.specs.declared.nets.Nets.{Nets as Amounts};
+ghost use Rattle.vd_cost_network_dual.specs.declared.nets.Nets.{Nets as Amounts};
 ghost use Rattle.vd_space.specs.Bounds.{use_shift};
 ghost use Rattle.vd_space.specs.Costs.{total};
 

@@ -1,12 +1,12 @@
 //! The shifts that come to given amounts.
 
 ghost use Rattle.std.specs.Prelude.{◌≡◌, ◌<◌, ◌≤◌, IfOk, IfSome, OnOk};
-ghost use Rattle.vd_cost_network_sweeps.specs.Rows.{row_of};
+ghost use Rattle.vd_cost_network_dual.specs.Rows.{row_of};
 ghost use Rattle.vd_cost_network_ascent.specs.Shifts.{Adds, AreShiftsOf, Puts, PutsRow, arc_shifts, row_shifts, shift_to, shifts_by};
 
 use std::alloc::{AllocError, Global};
 use vd_base::{Items, limits};
-use vd_cost_network_sweeps::{Nets, number_at, row_at};
+use vd_cost_network_dual::{Nets, number_at, row_at};
 use vd_search_tree::Shift;
 
 /// A certificate has at most so many shifts.

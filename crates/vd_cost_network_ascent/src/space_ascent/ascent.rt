@@ -11,7 +11,7 @@ use crate::space_ascent::climbing::climbed;
 use crate::space_ascent::tables::plain_tables;
 use std::alloc::{AllocError, Global};
 use vd_base::{Items, Proto};
-use vd_cost_network_sweeps::{Layout, Nets, UNIT_BITS};
+use vd_cost_network_dual::{Layout, Nets, UNIT_BITS};
 use vd_cost_network_prefix::NetworkTables;
 use vd_search_tree::Shift;
 use vd_space::Problem;

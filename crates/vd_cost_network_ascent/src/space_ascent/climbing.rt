@@ -1,7 +1,7 @@
 //! The levels of the climb over slots and uses: sweeps in ever greater parts of a unit, until parts are whole.
 
 use std::alloc::{AllocError, Global};
-use vd_cost_network_sweeps::{
+use vd_cost_network_dual::{
     Ending, Keep, Layout, Lift, Lifting, Nets, Network, Reach, State, Tables, UNIT, UNIT_BITS,
     Witness,
 };

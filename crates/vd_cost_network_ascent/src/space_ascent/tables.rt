@@ -5,7 +5,7 @@ ghost use Rattle.vd_space.specs.WellFormed.{AreProtocols};
 
 use std::alloc::{AllocError, Global};
 use vd_base::{Items, Proto, SlotId};
-use vd_cost_network_sweeps::{NOTHING_LEFT, UNIT};
+use vd_cost_network_dual::{NOTHING_LEFT, UNIT};
 use vd_cost_network_prefix::{ArcTable, NetworkTables, PointTable};
 use vd_space::{Problem, Use};
 use vd_space_tables::{merged_values, move_prices};

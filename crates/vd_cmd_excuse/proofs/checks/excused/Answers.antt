@@ -1,4 +1,4 @@
-use Rattle.vd_equivocation.specs.declared.fault.ViewFault.TheVariants as view_fault
+use Rattle.vd_excuse.specs.declared.fault.ViewFault.TheVariants as view_fault
 use Rattle.vd_cmd_excuse.proofs.Looked.{excused_is, refused_is}
 use Rattle.vd_cmd_excuse.proofs.checks.excused.Goals as goal
 

@@ -3,7 +3,7 @@ use Rattle.std.proofs.lemmas.Result.{err_from_is_err_and}
 use Rattle.vd_base.specs.declared.protocols.Proto.{Proto}
 use Rattle.vd_cmd_plan.proofs.Front.{any_memory}
 use Rattle.vd_cmd_compile.proofs.Front.{can_run}
-use Rattle.vd_equivocation.specs.Talk.{IsPlayable}
+use Rattle.vd_excuse.specs.Talk.{IsPlayable}
 use Rattle.vd_cmd_excuse.proofs.Explained.{are_asked, chosen_two, playable, seen_two, told}
 use Rattle.vd_cmd_excuse.proofs.Answered.{answer_at, checks_at, explained, not_excused}
 use Rattle.vd_cmd_excuse.proofs.excuse_command.excuse_free.Goals as goal

@@ -1,4 +1,4 @@
-use Rattle.vd_cost_network_sweeps.specs.Rows.{row_of}
+use Rattle.vd_cost_network_dual.specs.Rows.{row_of}
 use Rattle.vd_cost_network_ascent.proofs.Taken.{taken}
 use Rattle.vd_cost_network_ascent.proofs.cost_network_shifts.laws.shifts_take_the_amounts.Goals as goal
 

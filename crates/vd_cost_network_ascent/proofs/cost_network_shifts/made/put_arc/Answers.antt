@@ -1,5 +1,5 @@
 use Rattle.vd_cost_network_ascent.proofs.Making.{adds_both, in_rows, puts_both}
-use Rattle.vd_cost_network_sweeps.specs.Rows.{row_of}
+use Rattle.vd_cost_network_dual.specs.Rows.{row_of}
 use Rattle.vd_cost_network_ascent.proofs.cost_network_shifts.made.put_arc.Goals as goal
 
 pub returns-clause-puts : goal.returns-clause-puts

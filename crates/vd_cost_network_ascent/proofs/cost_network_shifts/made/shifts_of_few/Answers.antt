@@ -1,6 +1,6 @@
 use Rattle.std.proofs.Common.{arith}
 use Rattle.vd_cost_network_ascent.proofs.Making.{arc_next}
-use Rattle.vd_cost_network_sweeps.specs.Rows.{row_of}
+use Rattle.vd_cost_network_dual.specs.Rows.{row_of}
 use Rattle.vd_cost_network_ascent.proofs.cost_network_shifts.made.shifts_of_few.Goals as goal
 
 pub loop-at-preserved : goal.loop-at-preserved

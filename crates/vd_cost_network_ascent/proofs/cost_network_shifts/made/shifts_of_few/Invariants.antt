@@ -1,6 +1,6 @@
 use Rattle.std.proofs.Common.{◌≡◌}
 use Rattle.vd_cost_network_ascent.specs.Shifts.{AreShiftsOf, net_shifts}
-use Rattle.vd_cost_network_sweeps.specs.Rows.{row_of}
+use Rattle.vd_cost_network_dual.specs.Rows.{row_of}
 use Rattle.vd_cost_network_ascent.proofs.cost_network_shifts.made.shifts_of_few.Given as goal
 
 abbrev pub invariant-loop-at : goal.invariant-loop-at

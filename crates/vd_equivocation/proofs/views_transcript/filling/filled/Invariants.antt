@@ -1,7 +1,0 @@
-use Rattle.std.proofs.Common.{◌≡◌, map}
-use Rattle.std.specs.List.{range_with_len}
-use Rattle.vd_equivocation.specs.Filling.{filled_at}
-use Rattle.vd_equivocation.proofs.views_transcript.filling.filled.Given as goal
-
-abbrev pub invariant-loop-host : goal.invariant-loop-host
-invariant-loop-host l = l.all ≡ map (filled_at l.inputs l.needs) (range_with_len 0 l.host)

@@ -1,5 +1,0 @@
-use Rattle.vd_equivocation_walk.proofs.WalkedActs.{walks_excuse}
-use Rattle.vd_equivocation_walk.proofs.equivocation_laws.walks_excuse.Goals as goal
-
-pub returns : goal.returns
-returns c = walks_excuse
