@@ -1,17 +1,42 @@
 //! Runs worked examples through the top call, over files, streams, links and children in memory, and prints what each run leaves.
-//! The examples are read from standard input: `stdin` has them in the form that `vd_test_examples` says, with a line `run` behind each,
-//! and `stdout` what is to come.
+//! `stdin` has the examples, and `stdout` what is to come.
+//!
+//! Each line of an example is one of these:
+//!
+//!     case NAME         begins an example
+//!     words WORD ..     the words of the command line
+//!     file NAME         begins a file, of which the next lines that begin `|`, `>` or `*` are the content:
+//!     |TEXT             a line, with its end
+//!     >TEXT             a piece without an end
+//!     *COUNT TEXT       a piece, so many times
+//!     link ADDRESS      begins a link that waits at an address
+//!     <HEX              bytes that come on the last link
+//!     child STATUS      begins a child, which ends with this status
+//!     -TEXT             a line that the last child writes
+//!     mark PLACE        the mark at this place is taken
+//!     draw HEX          32 bytes that will be drawn
+//!     fail files CALL   the call of the files with this number fails; likewise of `marks`, `out`, `err`, `net`, `spawner` and, of the
+//!                       last link, `link`
+//!     most COUNT        one write of the output takes at most so many bytes, and one call of a link passes as many
+//!     keep              goes on with the files and marks that the example before left
+//!     quiet             leaves out what stands in stored files, where more than one content is right
+//!     run               runs the example
 #![tactic(auto)]
+
+mod example;
+mod outside;
+mod report;
 
 ghost use Rattle.std.specs.Prelude.{◌≡◌, ◌≤◌, []};
 
+use crate::example::{Example, Objects};
+use crate::report::print_run;
 use std::alloc::Global;
 use std::io::{self, BufRead, BufReader, Write};
 use vd_base::{Items, Texts};
 use vd_channel_link::SealedNet;
 use vd_fakes::Mark;
 use vd_outside::{Files, Marks, Net, Sink, Spawner, Stored};
-use vd_test_examples::{Example, Objects, print_run};
 use vd_top::start;
 
 /// The number of the status with which the words are run.

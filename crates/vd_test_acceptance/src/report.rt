@@ -143,7 +143,7 @@ fn print_spawner_call<W: Write>(to: &mut W, call: &SpawnerCall) -> io::Result<()
 
 /// Prints the status of a run, what was written to its streams, the calls of its files, its marks, its net and its spawner, and what
 /// was sent on each link that came back.
-pub fn print_run<W: Write>(
+pub(crate) fn print_run<W: Write>(
     to: &mut W,
     name: &str,
     code: u8,

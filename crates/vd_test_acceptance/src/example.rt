@@ -27,7 +27,7 @@ fn number(text: &str) -> u32 {
 }
 
 #[derive(Drop)]
-pub struct Example {
+pub(crate) struct Example {
     name: String,
     words: Texts,
     files: Items<Stored>,
@@ -50,7 +50,7 @@ pub struct Example {
 
 /// The objects of an example, in memory.
 #[derive(Drop)]
-pub struct Objects {
+pub(crate) struct Objects {
     pub words: Texts,
     pub files: MemFiles,
     pub marks: MemMarks,
@@ -61,7 +61,7 @@ pub struct Objects {
 }
 
 impl Example {
-    pub fn new(alloc: Global) -> Result<Example, AllocError> {
+    pub(crate) fn new(alloc: Global) -> Result<Example, AllocError> {
         Ok(Example {
             name: String::new(alloc),
             words: Texts::new(alloc),
@@ -83,7 +83,7 @@ impl Example {
     }
 
     /// Takes in a line, and says whether it is one.
-    pub fn read(&mut self, alloc: Global, line: &str) -> Result<bool, AllocError> {
+    pub(crate) fn read(&mut self, alloc: Global, line: &str) -> Result<bool, AllocError> {
         if let Some(text) = line.strip_prefix("|") {
             self.put(text, 1)?;
             return self.put("\n", 1);
@@ -223,18 +223,22 @@ impl Example {
     }
 
     /// What the example is called.
-    pub fn name(&self) -> &str {
+    pub(crate) fn name(&self) -> &str {
         self.name.as_str()
     }
 
     /// Whether the contents of stored files are left out.
-    pub fn is_quiet(&self) -> bool {
+    pub(crate) fn is_quiet(&self) -> bool {
         self.quiet
     }
 
     /// Goes on with these files and marks of the example before, if that is said. Of marks with one name the first counts, so the
     /// later ones stand before the earlier ones.
-    pub fn go_on(&mut self, files: Items<Stored>, marks: Items<Mark>) -> Result<(), AllocError> {
+    pub(crate) fn go_on(
+        &mut self,
+        files: Items<Stored>,
+        marks: Items<Mark>,
+    ) -> Result<(), AllocError> {
         if self.keeps {
             self.files.append(files)?;
             self.marks.append(marks)?;
@@ -287,7 +291,7 @@ impl Example {
     }
 
     /// Takes out the words and the objects over which they are run.
-    pub fn take_objects(&mut self, alloc: Global) -> Result<Objects, AllocError>
+    pub(crate) fn take_objects(&mut self, alloc: Global) -> Result<Objects, AllocError>
         ensures listeners { IfOk result (λ objects. objects.net.net.listeners ≡ []) }
         ensures children { IfOk result (λ objects. objects.spawner.children ≡ []) }
     {
