@@ -227,7 +227,7 @@ impl<N: Net + Drop> Net for SealedNet<N> {
     fn wait_at_most(&mut self, seconds: Option<u32>)
         ensures limited { sealing (N.view self.new.net) self.new.faults ≡
             record (sealing (N.view self.old.net) self.old.faults) { limit = seconds } }
-        ensures below { N.view self.new.net ≡ N.view self.old.net }
+        ensures below { N.view self.new.net ≡ record (N.view self.old.net) { limit = seconds } }
         ensures seal { self.new.seal ≡ self.old.seal }
         ensures ledger { self.new.ledger ≡ self.old.ledger }
     {
