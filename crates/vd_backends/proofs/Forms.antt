@@ -9,8 +9,8 @@ use Rattle.vd_duet.specs.Builder.{Builder, HasRoom, next_at, taken}
 use Rattle.vd_duet.specs.Calls.{Places, Made, called, hosts_of}
 use Rattle.vd_duet.specs.Laws.{AreKnown}
 use Rattle.vd_clear.specs.Copies.{each_made}
-use Rattle.vd_backend_moves.specs.Formed.{is_named, AreFormed}
-use Rattle.vd_backend_moves.proofs.Front.{named_formed, second_low, two_named}
+use Rattle.vd_backends.specs.Formed.{is_named, AreFormed}
+use Rattle.vd_backends.proofs.BackendMovesForms.{named_formed, second_low, two_named}
 
 -- each host takes so many registers, and gives the first
 module _ (k : ℕ) (f : HostId → List ℕ → Made Reg) (first : (h : HostId) (next : List ℕ) → (f h next).given ≡ next_at next h)

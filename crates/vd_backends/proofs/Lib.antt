@@ -5,3 +5,5 @@ mod Forms
 mod Making
 mod Offers
 mod Served
+mod Named
+mod Places

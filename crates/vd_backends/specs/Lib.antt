@@ -1,2 +1,4 @@
 pub mod Offered
 pub mod Turns
+pub mod Formed
+pub mod Moving

@@ -13,7 +13,7 @@ use Rattle.vd_split.specs.Offer.{Offer, AreServed, stmt_stands}
 use Rattle.vd_backend_laws.specs.Machine.{machine}
 use Rattle.vd_backend_laws.specs.Parts.{Parts, back_end, suite_calls}
 use Rattle.vd_backend_laws.specs.Suite.{is_in_order, IsOver, suite}
-use Rattle.vd_backend_moves.specs.Formed.{hosts_at}
+use Rattle.vd_backends.specs.Formed.{hosts_at}
 
 -- a protocol over the first hosts, in order
 abbrev pub is_offered : ℕ → Proto → Bool

@@ -10,10 +10,10 @@ ghost use Rattle.vd_duet.specs.Laws.{AreKnown};
 ghost use Rattle.vd_clear.specs.Copies.{each_made, written_by};
 ghost use Rattle.vd_split.specs.Suite.{Made as AnyMade};
 ghost use Rattle.vd_backend_laws.specs.Parts.{cell_read, cell_written, index_of, new_cells, zeros_at};
-ghost use Rattle.vd_backend_moves.specs.Formed.{AreFormed};
+ghost use Rattle.vd_backends.specs.Formed.{AreFormed};
 ghost use Rattle.vd_backends.specs.Offered.{AreApart};
 
-use crate::held::Held;
+use crate::placement::Placement;
 use std::alloc::AllocError;
 use vd_base::{HostId, Items, Proto, holders};
 use vd_clear::{Step, each_host};
@@ -65,7 +65,7 @@ fn index_at(index: &[(u8, u32)], host: HostId) -> Reg
 
 /// A word of an array is read, at the index in these registers.
 #[derive(Drop)]
-struct Read<'a>(&'a Held, &'a [(u8, u32)]);
+struct Read<'a>(&'a Placement, &'a [(u8, u32)]);
 
 impl<'a> Step for Read<'a> {
     ghost made = { λ s h. written_by h (λ r. action.Get r (register_of s.0.now.at h.0) s.0.now.size (index_of s.1.now h.0)) };
@@ -84,7 +84,7 @@ impl<'a> Step for Read<'a> {
 /// A word of an array.
 pub(crate) fn get(
     at: Proto,
-    x: &Held,
+    x: &Placement,
     index: &[(u8, u32)],
     to: &mut Duet,
 ) -> Result<Parts<Clear>, AllocError>
@@ -101,9 +101,9 @@ pub(crate) fn get(
 /// A word of an array is written at each of these hosts.
 fn write(
     hosts: &[HostId],
-    kept: &Held,
+    kept: &Placement,
     index: &[(u8, u32)],
-    x: &Held,
+    x: &Placement,
     to: &mut Duet,
 ) -> Result<(), AllocError>
     ensures { OnOk result (to.new ≡ appended
@@ -122,9 +122,9 @@ fn write(
 /// A word of an array is written.
 pub(crate) fn put(
     at: Proto,
-    kept: &Held,
+    kept: &Placement,
     index: &[(u8, u32)],
-    x: &Held,
+    x: &Placement,
     to: &mut Duet,
 ) -> Result<(), AllocError>
     ensures { OnOk result (to.new ≡ appended (cell_written at kept.now index.now x.now.at) to.old) }

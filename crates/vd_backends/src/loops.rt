@@ -8,7 +8,7 @@ ghost use Rattle.vd_base.specs.Holders.{holders as holders_of};
 ghost use Rattle.vd_duet.specs.Laws.{AreKnown};
 ghost use Rattle.vd_clear.specs.Copies.{written_by};
 ghost use Rattle.vd_backend_laws.specs.Parts.{turned};
-ghost use Rattle.vd_backend_moves.specs.Formed.{AreFormed};
+ghost use Rattle.vd_backends.specs.Formed.{AreFormed};
 ghost use Rattle.vd_backends.specs.Turns.{shared_turn};
 
 use std::alloc::{AllocError, Global};

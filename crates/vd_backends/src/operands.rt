@@ -3,13 +3,13 @@
 ghost use Rattle.std.specs.Prelude.{◌≡◌, IfOk, length, map};
 ghost use Rattle.vd_duet.specs.Calls.{all_placed};
 
-use crate::held::Held;
+use crate::placement::Placement;
 use std::alloc::{AllocError, Global};
 use vd_base::Items;
 use vd_duet::{Args, Clear};
 
 /// The registers of operands.
-pub(crate) fn operands(xs: &Items<Held>, alloc: Global) -> Result<Args<Clear>, AllocError>
+pub(crate) fn operands(xs: &Items<Placement>, alloc: Global) -> Result<Args<Clear>, AllocError>
     ensures exact { IfOk result (λ args. all_placed (λ c. c.0) args ≡ map (λ x. x.at) xs.now) }
     ensures as_many { IfOk result (λ args. length args ≡ length xs.now) }
 {

@@ -4,7 +4,7 @@ ghost use Rattle.vd_execution.specs.Text.{flat, pick};
 ghost use Rattle.vd_projection.specs.Programs.{CanRunAt, host_codes, joint_of};
 
 use std::alloc::{AllocError, Global};
-use vd_backends::Built;
+use vd_backends::AllProtocols;
 use vd_base::{HostId, Items, Proto};
 use vd_core::Program;
 use vd_execution::{Instr, Line};
@@ -27,7 +27,7 @@ pub fn joint_lines(
     ensures { IfOk result (λ lines. lines ≡ flat (joint_of program.now protocols.now) []) }
 {
     let hosts = host_count(program);
-    let built = Built::new(alloc, hosts);
+    let built = AllProtocols::new(alloc, hosts);
     joint_code(alloc, &built, protocols, program)
 }
 

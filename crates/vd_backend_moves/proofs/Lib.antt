@@ -1,3 +1,0 @@
-pub mod Front
-mod Forms
-mod Places

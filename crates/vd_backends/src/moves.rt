@@ -1,0 +1,362 @@
+//! The moves of words between protocols.
+
+ghost use Rattle.std.specs.Prelude.{◌≡◌, ◌<◌, ◌∷◌, [], IsTrue, IfOk, OnOk, length};
+ghost use Rattle.vd_base.specs.declared.protocols.Proto.TheVariants as proto;
+ghost use Rattle.vd_base.specs.Holders.{holders};
+ghost use Rattle.vd_duet.specs.Builder.{HasRoom, TakesFew};
+ghost use Rattle.vd_duet.specs.Calls.{Makes, hosts_of, in_clear};
+ghost use Rattle.vd_duet.specs.Laws.{AreKnown};
+ghost use Rattle.vd_clear.specs.Copies.{clear_calls};
+ghost use Rattle.vd_backend_sharing.specs.PairCalls.{places_at, shares_of};
+ghost use Rattle.vd_words.specs.AddCalls.{add_calls};
+ghost use Rattle.vd_circuit.specs.CircuitCalls.{circuit_calls};
+ghost use Rattle.vd_convert.specs.Convert.{to_add_made, to_xor_made};
+ghost use Rattle.vd_backend_laws.specs.Commits.{commit_calls};
+ghost use Rattle.vd_backend_laws.specs.Moves.{copies_at as copies_of, only as only_of};
+ghost use Rattle.vd_backends.specs.Formed.{AreFormed, is_named};
+ghost use Rattle.vd_backends.specs.Moving.{Brings, Opens, Shows};
+
+use crate::back_ends::share;
+use crate::commitments::{same_bound, show_both, show_bound};
+use crate::pairs::{Bits, Sums};
+use crate::shares::{bits, of_bits, of_sums, sums};
+use std::alloc::{AllocError, Global};
+use vd_backend_sharing::Shares;
+use vd_base::{HostId, HostSet, Items, Proto};
+use vd_bits::XorPair;
+use vd_circuit::CircuitPair;
+use vd_clear::{Replica, spread};
+use vd_convert::{to_add, to_xor};
+use vd_duet::{Backend, Clear, Duet, Parts, register_at};
+use vd_execution::Reg;
+use vd_words::AddPair;
+
+/// The register of a word that one host has.
+fn only(x: &Parts<Clear>) -> Reg
+    ensures { result ≡ only_of (in_clear x.now) }
+{
+    match x.as_slice() {
+        [part, ..] => part.1.0,
+        [] => Reg(0),
+    }
+}
+
+/// The move of a word from copies to one host.
+fn show(
+    set: HostSet,
+    x: &Parts<Clear>,
+    at: HostId,
+    to: &mut Duet,
+) -> Result<Parts<Clear>, AllocError>
+    requires known { AreKnown (holders (proto.Rep set)) to.old.next }
+    requires at { at.0 < length to.old.next }
+    requires placed { hosts_of (in_clear x.now) ≡ holders (proto.Rep set) }
+    requires room { HasRoom 0 to.old.next }
+    ensures exact { IfOk result (λ y. Shows (clear_calls (proto.Rep set)) at (in_clear x.now) to.old (in_clear y) to.new) }
+    ensures hosts { IfOk result (λ y. hosts_of (in_clear y) ≡ holders (proto.Local at)) }
+    ensures few { OnOk result (TakesFew to.old.next to.new.next) }
+{
+    let shown = Replica(set).show(x, at, to)?;
+    Ok(Items::from_slice(to.alloc(), &[(at, shown)])?)
+}
+
+/// The move of a word from copies to another protocol.
+fn bring_copies(
+    set: HostSet,
+    onto: Proto,
+    x: &Parts<Clear>,
+    to: &mut Duet,
+) -> Result<Parts<Clear>, AllocError>
+    requires known { AreKnown (holders (proto.Rep set)) to.old.next }
+    requires onto_known { AreKnown (holders onto) to.old.next }
+    requires placed { hosts_of (in_clear x.now) ≡ holders (proto.Rep set) }
+    requires room { HasRoom 0 to.old.next }
+    ensures exact { IfOk result (λ y. Brings (proto.Rep set) onto (in_clear x.now) to.old (in_clear y) to.new) }
+    ensures hosts { IfOk result (λ y. AreFormed onto (in_clear y)) }
+    ensures few { OnOk result (TakesFew to.old.next to.new.next) }
+{
+    match onto {
+        Proto::Local(host) => show(set, x, host, to),
+        Proto::Rep(other) => spread(x, set, other, to),
+        Proto::Add(first, second) => Sums(AddPair(first, second)).adopt(x, to),
+        Proto::Xor(first, second) => Bits(CircuitPair(first, second)).adopt(x, to),
+        Proto::Commit(_, _) => Ok(Items::new(to.alloc())),
+    }
+}
+
+/// Of copies, those at these hosts.
+fn copies_at(hosts: &[HostId], x: &Parts<Clear>, alloc: Global) -> Result<Parts<Clear>, AllocError>
+    ensures exact { IfOk result (λ y. in_clear y ≡ copies_of hosts.now (in_clear x.now)) }
+    ensures hosts { IfOk result (λ y. hosts_of (in_clear y) ≡ hosts.now) }
+{
+    let mut copies = Items::new(alloc);
+    for host in hosts {
+        copies.push((*host, Clear(register_at(x, *host))))?;
+    }
+    Ok(copies)
+}
+
+/// The registers of the first two parts.
+fn shares(x: &Parts<Clear>) -> Shares
+    ensures { result ≡ shares_of (in_clear x.now) }
+{
+    match x.as_slice() {
+        [first, second, ..] => Shares {
+            first: first.1.0,
+            second: second.1.0,
+        },
+        _ => Shares {
+            first: Reg(0),
+            second: Reg(0),
+        },
+    }
+}
+
+/// The registers of two parts, as those of these hosts.
+fn same(
+    first: HostId,
+    second: HostId,
+    x: &Parts<Clear>,
+    alloc: Global,
+) -> Result<Parts<Clear>, AllocError>
+    ensures { IfOk result (λ y. in_clear y ≡ places_at first second (shares_of (in_clear x.now))) }
+{
+    let parts = shares(x);
+    Ok(Items::from_slice(
+        alloc,
+        &[(first, Clear(parts.first)), (second, Clear(parts.second))],
+    )?)
+}
+
+/// The move of a word from sums of two hosts to one host.
+fn show_sums(
+    pair: AddPair,
+    x: &Parts<Clear>,
+    at: HostId,
+    to: &mut Duet,
+) -> Result<Parts<Clear>, AllocError>
+    requires known { AreKnown (holders (proto.Add pair.0 pair.1)) to.old.next }
+    requires at { at.0 < length to.old.next }
+    requires placed { hosts_of (in_clear x.now) ≡ holders (proto.Add pair.0 pair.1) }
+    requires room { HasRoom 0 to.old.next }
+    ensures exact { IfOk result (λ y. Shows (add_calls pair.0 pair.1) at (in_clear x.now) to.old (in_clear y) to.new) }
+    ensures hosts { IfOk result (λ y. hosts_of (in_clear y) ≡ holders (proto.Local at)) }
+    ensures few { OnOk result (TakesFew to.old.next to.new.next) }
+{
+    let shown = Sums(pair).show(x, at, to)?;
+    Ok(Items::from_slice(to.alloc(), &[(at, shown)])?)
+}
+
+/// The move of a word from sums of two hosts to copies at both.
+fn open_sums(
+    pair: AddPair,
+    set: HostSet,
+    x: &Parts<Clear>,
+    to: &mut Duet,
+) -> Result<Parts<Clear>, AllocError>
+    requires known { AreKnown (holders (proto.Add pair.0 pair.1)) to.old.next }
+    requires placed { hosts_of (in_clear x.now) ≡ holders (proto.Add pair.0 pair.1) }
+    requires room { HasRoom 0 to.old.next }
+    ensures exact { IfOk result (λ y. Opens (add_calls pair.0 pair.1) set (in_clear x.now) to.old (in_clear y) to.new) }
+    ensures hosts { IfOk result (λ y. hosts_of (in_clear y) ≡ holders (proto.Rep set)) }
+    ensures few { OnOk result (TakesFew to.old.next to.new.next) }
+{
+    let all = Sums(pair).show_all(x, to)?;
+    let hosts = set.members(to.alloc())?;
+    copies_at(hosts.as_slice(), &all, to.alloc())
+}
+
+/// The move of a word from exclusive ors of two hosts to one host.
+fn show_bits(
+    pair: CircuitPair,
+    x: &Parts<Clear>,
+    at: HostId,
+    to: &mut Duet,
+) -> Result<Parts<Clear>, AllocError>
+    requires known { AreKnown (holders (proto.Xor pair.0 pair.1)) to.old.next }
+    requires at { at.0 < length to.old.next }
+    requires placed { hosts_of (in_clear x.now) ≡ holders (proto.Xor pair.0 pair.1) }
+    requires room { HasRoom 0 to.old.next }
+    ensures exact { IfOk result (λ y. Shows (circuit_calls pair.0 pair.1) at (in_clear x.now) to.old (in_clear y) to.new) }
+    ensures hosts { IfOk result (λ y. hosts_of (in_clear y) ≡ holders (proto.Local at)) }
+    ensures few { OnOk result (TakesFew to.old.next to.new.next) }
+{
+    let shown = Bits(pair).show(x, at, to)?;
+    Ok(Items::from_slice(to.alloc(), &[(at, shown)])?)
+}
+
+/// The move of a word from exclusive ors of two hosts to copies at both.
+fn open_bits(
+    pair: CircuitPair,
+    set: HostSet,
+    x: &Parts<Clear>,
+    to: &mut Duet,
+) -> Result<Parts<Clear>, AllocError>
+    requires known { AreKnown (holders (proto.Xor pair.0 pair.1)) to.old.next }
+    requires placed { hosts_of (in_clear x.now) ≡ holders (proto.Xor pair.0 pair.1) }
+    requires room { HasRoom 0 to.old.next }
+    ensures exact { IfOk result (λ y. Opens (circuit_calls pair.0 pair.1) set (in_clear x.now) to.old (in_clear y) to.new) }
+    ensures hosts { IfOk result (λ y. hosts_of (in_clear y) ≡ holders (proto.Rep set)) }
+    ensures few { OnOk result (TakesFew to.old.next to.new.next) }
+{
+    let all = Bits(pair).show_all(x, to)?;
+    let hosts = set.members(to.alloc())?;
+    copies_at(hosts.as_slice(), &all, to.alloc())
+}
+
+/// The move of a word from sums to exclusive ors of two hosts.
+fn sums_to_bits(
+    first: HostId,
+    second: HostId,
+    x: &Parts<Clear>,
+    to: &mut Duet,
+) -> Result<Parts<Clear>, AllocError>
+    requires known { AreKnown (first ∷ second ∷ []) to.old.next }
+    requires room { HasRoom 0 to.old.next }
+    ensures exact { IfOk result (λ y. Makes (to_xor_made first second (in_clear x.now)) to.old (in_clear y) to.new) }
+    ensures hosts { IfOk result (λ y. hosts_of (in_clear y) ≡ first ∷ second ∷ []) }
+    ensures few { OnOk result (TakesFew to.old.next to.new.next) }
+{
+    let parts = sums(x, to.alloc())?;
+    let y = to_xor(&AddPair(first, second), &parts, to)?;
+    of_bits(&y, to.alloc())
+}
+
+/// The move of a word from exclusive ors to sums of two hosts.
+fn bits_to_sums(
+    first: HostId,
+    second: HostId,
+    x: &Parts<Clear>,
+    to: &mut Duet,
+) -> Result<Parts<Clear>, AllocError>
+    requires known { AreKnown (first ∷ second ∷ []) to.old.next }
+    requires room { HasRoom 0 to.old.next }
+    ensures exact { IfOk result (λ y. Makes (to_add_made first second (in_clear x.now)) to.old (in_clear y) to.new) }
+    ensures hosts { IfOk result (λ y. hosts_of (in_clear y) ≡ first ∷ second ∷ []) }
+    ensures few { OnOk result (TakesFew to.old.next to.new.next) }
+{
+    let parts = bits(x, to.alloc())?;
+    let y = to_add(&XorPair(first, second), &parts, to)?;
+    of_sums(&y, to.alloc())
+}
+
+/// The move of a word from sums of two hosts to another protocol.
+fn bring_sums(
+    first: HostId,
+    second: HostId,
+    onto: Proto,
+    x: &Parts<Clear>,
+    to: &mut Duet,
+) -> Result<Parts<Clear>, AllocError>
+    requires known { AreKnown (holders (proto.Add first second)) to.old.next }
+    requires onto_known { AreKnown (holders onto) to.old.next }
+    requires placed { hosts_of (in_clear x.now) ≡ holders (proto.Add first second) }
+    requires room { HasRoom 0 to.old.next }
+    ensures exact { IfOk result (λ y. Brings (proto.Add first second) onto (in_clear x.now) to.old (in_clear y) to.new) }
+    ensures hosts { IfOk result (λ y. AreFormed onto (in_clear y)) }
+    ensures few { OnOk result (TakesFew to.old.next to.new.next) }
+{
+    let pair = AddPair(first, second);
+    match onto {
+        Proto::Local(host) => show_sums(pair, x, host, to),
+        Proto::Rep(set) => open_sums(pair, set, x, to),
+        Proto::Add(one, other) => same(one, other, x, to.alloc()),
+        Proto::Xor(one, other) => sums_to_bits(one, other, x, to),
+        Proto::Commit(_, _) => Ok(Items::new(to.alloc())),
+    }
+}
+
+/// The move of a word from exclusive ors of two hosts to another protocol.
+fn bring_bits(
+    first: HostId,
+    second: HostId,
+    onto: Proto,
+    x: &Parts<Clear>,
+    to: &mut Duet,
+) -> Result<Parts<Clear>, AllocError>
+    requires known { AreKnown (holders (proto.Xor first second)) to.old.next }
+    requires onto_known { AreKnown (holders onto) to.old.next }
+    requires placed { hosts_of (in_clear x.now) ≡ holders (proto.Xor first second) }
+    requires room { HasRoom 0 to.old.next }
+    ensures exact { IfOk result (λ y. Brings (proto.Xor first second) onto (in_clear x.now) to.old (in_clear y) to.new) }
+    ensures hosts { IfOk result (λ y. AreFormed onto (in_clear y)) }
+    ensures few { OnOk result (TakesFew to.old.next to.new.next) }
+{
+    let pair = CircuitPair(first, second);
+    match onto {
+        Proto::Local(host) => show_bits(pair, x, host, to),
+        Proto::Rep(set) => open_bits(pair, set, x, to),
+        Proto::Add(one, other) => bits_to_sums(one, other, x, to),
+        Proto::Xor(one, other) => same(one, other, x, to.alloc()),
+        Proto::Commit(_, _) => Ok(Items::new(to.alloc())),
+    }
+}
+
+/// The move of a committed word to copies at both hosts.
+fn open_bound(
+    bound: HostId,
+    keeper: HostId,
+    set: HostSet,
+    x: &Parts<Clear>,
+    to: &mut Duet,
+) -> Result<Parts<Clear>, AllocError>
+    requires known { AreKnown (bound ∷ keeper ∷ []) to.old.next }
+    requires named { IsTrue (is_named (in_clear x.now)) }
+    requires room { HasRoom 0 to.old.next }
+    ensures exact { IfOk result (λ y. Opens (commit_calls bound keeper) set (in_clear x.now) to.old (in_clear y) to.new) }
+    ensures hosts { IfOk result (λ y. hosts_of (in_clear y) ≡ holders (proto.Rep set)) }
+    ensures few { OnOk result (TakesFew to.old.next to.new.next) }
+{
+    let all = show_both(bound, keeper, x, to)?;
+    let hosts = set.members(to.alloc())?;
+    copies_at(hosts.as_slice(), &all, to.alloc())
+}
+
+/// The move of a committed word to another protocol.
+fn bring_bound(
+    bound: HostId,
+    keeper: HostId,
+    onto: Proto,
+    x: &Parts<Clear>,
+    to: &mut Duet,
+) -> Result<Parts<Clear>, AllocError>
+    requires known { AreKnown (bound ∷ keeper ∷ []) to.old.next }
+    requires onto_known { AreKnown (holders onto) to.old.next }
+    requires named { IsTrue (is_named (in_clear x.now)) }
+    requires room { HasRoom 0 to.old.next }
+    ensures exact { IfOk result (λ y. Brings (proto.Commit bound keeper) onto (in_clear x.now) to.old (in_clear y) to.new) }
+    ensures hosts { IfOk result (λ y. AreFormed onto (in_clear y)) }
+    ensures few { OnOk result (TakesFew to.old.next to.new.next) }
+{
+    match onto {
+        Proto::Local(host) => show_bound(bound, keeper, x, host, to),
+        Proto::Rep(set) => open_bound(bound, keeper, set, x, to),
+        Proto::Commit(one, other) => same_bound(one, other, x, to.alloc()),
+        Proto::Add(first, second) => Sums(AddPair(first, second)).adopt(x, to),
+        Proto::Xor(first, second) => Bits(CircuitPair(first, second)).adopt(x, to),
+    }
+}
+
+/// The move of a word from one protocol to another. Between two that do not join, what it gives has the form of the second.
+pub(crate) fn bring(
+    from: Proto,
+    onto: Proto,
+    x: &Parts<Clear>,
+    to: &mut Duet,
+) -> Result<Parts<Clear>, AllocError>
+    requires known { AreKnown (holders from) to.old.next }
+    requires onto_known { AreKnown (holders onto) to.old.next }
+    requires placed { AreFormed from (in_clear x.now) }
+    requires room { HasRoom 0 to.old.next }
+    ensures exact { IfOk result (λ y. Brings from onto (in_clear x.now) to.old (in_clear y) to.new) }
+    ensures hosts { IfOk result (λ y. AreFormed onto (in_clear y)) }
+    ensures few { OnOk result (TakesFew to.old.next to.new.next) }
+{
+    match from {
+        Proto::Local(host) => share(onto, host, only(x), to),
+        Proto::Rep(set) => bring_copies(set, onto, x, to),
+        Proto::Add(first, second) => bring_sums(first, second, onto, x, to),
+        Proto::Xor(first, second) => bring_bits(first, second, onto, x, to),
+        Proto::Commit(bound, keeper) => bring_bound(bound, keeper, onto, x, to),
+    }
+}
