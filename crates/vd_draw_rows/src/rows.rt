@@ -1,6 +1,6 @@
 //! The rows of a program, in order.
 
-ghost use Rattle.std.specs.Prelude.{◌≡◌, ◌++◌, ◌≤◌, IfOk, OnOk, length, map};
+ghost use Rattle.std.specs.Prelude.{◌≡◌, ◌++◌, ◌∷◌, drop, ◌≤◌, IfOk, OnOk, length, map};
 ghost use Rattle.vd_base.specs.Limits.{most_hosts, most_weights};
 ghost use Rattle.vd_core.specs.Facts.{weigh_all, weighing};
 ghost use Rattle.vd_draw_rows.specs.Moves.{told_to, is_part};
@@ -88,22 +88,6 @@ fn add_stmt(
         placed.entry.list.now stmt.now).rows around.weight around.depth) }
 {
     match stmt {
-        Stmt::Let(slot, right) => { rows.push(binding_row(alloc, placed, around, *slot, right)?) }
-        Stmt::NewVar(variable, value) => {
-            rows.push(variable_row(alloc, placed, around, *variable, *value)?)
-        }
-        Stmt::NewArray(array, cells) => {
-            rows.push(array_row(alloc, placed, around, *array, *cells)?)
-        }
-        Stmt::Store(variable, value) => {
-            rows.push(store_row(alloc, placed, around, *variable, *value)?)
-        }
-        Stmt::Put(array, index, value) => {
-            rows.push(put_row(alloc, placed, around, *array, *index, *value)?)
-        }
-        Stmt::Output(slot, host, offset) => {
-            rows.push(output_row(alloc, placed, around, *slot, *host, *offset)?)
-        }
         Stmt::If(guard, then_block, else_block, offset) => {
             let first = then_block.as_slice();
             let other = else_block.as_slice();
@@ -128,6 +112,35 @@ fn add_stmt(
             };
             add_block(alloc, rows, placed, inside(turn), turns)
         }
+        _ => rows.push(row_of(alloc, placed, around, stmt)?),
+    }
+}
+
+/// The first row of a statement.
+fn row_of(alloc: Global, placed: Placed, around: Around, stmt: &Stmt) -> Result<Row, AllocError>
+    requires { length placed.form.now.hosts ≤ most_hosts }
+    ensures { let rows = (rows_spec.drawn placed.entry.source.now placed.entry.form.now placed.entry.list.now stmt.now).rows
+        around.weight around.depth in IfOk result (λ row. row ∷ drop 1 rows ≡ rows) }
+{
+    match stmt {
+        Stmt::Let(slot, right) => binding_row(alloc, placed, around, *slot, right),
+        Stmt::NewVar(variable, value) => variable_row(alloc, placed, around, *variable, *value),
+        Stmt::NewArray(array, cells) => array_row(alloc, placed, around, *array, *cells),
+        Stmt::Store(variable, value) => store_row(alloc, placed, around, *variable, *value),
+        Stmt::Put(array, index, value) => put_row(alloc, placed, around, *array, *index, *value),
+        Stmt::Output(slot, host, offset) => output_row(
+            alloc, placed, around, *slot, *host, *offset,
+        ),
+        Stmt::If(guard, then_block, else_block, offset) => branch_row(
+            alloc,
+            placed,
+            around,
+            *guard,
+            then_block.as_slice(),
+            else_block.as_slice(),
+            *offset,
+        ),
+        Stmt::For(count, _) => loop_row(alloc, around, *count),
     }
 }
 
