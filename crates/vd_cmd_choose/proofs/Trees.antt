@@ -21,7 +21,7 @@ use Rattle.vd_source_lexer.specs.declared.token.Token.{Token}
 use Rattle.vd_source_lexer.specs.declared.token.TokenKind.{TokenKind}
 use Rattle.vd_source_lexer.specs.declared.token.TokenKind.TheVariants as kind
 use Rattle.vd_parser.specs.Language.{Symbol, rule, SOURCE, HOST, LABEL, FORM, CONJ, FATOM, STMT, EXPR, BOR, BXOR, BAND, SHIFT, SUM, PROD, UNARY, ATOM}
-use Rattle.vd_parser.specs.Syntax.{word_at, infix_of, form_of, conj_of, conjs_of, fatom_of, fatoms_of, label_of, label_option_of, host_of, host_name_of, new_form_of, prefixes_of, expr_of, bor_of, bor_segments_of, bxor_of, bxor_segments_of, band_of, band_segments_of, shift_of, shift_segments_of, sum_of, sum_segments_of, prod_of, prod_segments_of, unary_of, atom_of, word_atom_of, other_atom_of, named_of, first_of, let_of, output_of, statement_of, statements_of, source_of, principals_of, idents_of, more_idents_of, host_list_of, hosts_of, functions_of, block_of}
+use Rattle.vd_parser.specs.Syntax.{word_at, infix_of, form_of, conj_of, conjs_of, fatom_of, fatoms_of, label_of, label_option_of, host_of, host_name_of, new_form_of, prefixes_of, expr_of, bor_of, bor_segments_of, bxor_of, bxor_segments_of, band_of, band_segments_of, shift_of, shift_segments_of, sum_of, sum_segments_of, prod_of, prod_segments_of, unary_of, atom_of, word_atom_of, other_atom_of, named_of, first_of, between_of, let_of, output_of, statement_of, statements_of, source_of, principals_of, idents_of, more_idents_of, host_list_of, hosts_of, functions_of, block_of}
 
 -- a name with its place
 abbrev pub named : List ℕ → Span → Ident
@@ -220,7 +220,7 @@ declassify {text = text} {d = d} {o = o} {c = c} {b = b} {x = x} {p = p} {e = e}
 
 pub binding : {text N : List ℕ} {es rest : List Token} {k n q s : Token} {e : Expr} → IsKind k kind.Let → IsKind n kind.Name → IsKind q kind.Equal → word_at text n.span ≡ N →
     Reads (Sym EXPR) expr_of text es (s ∷ rest) e → IsKind s kind.Semicolon → Reads (Sym STMT) statement_of text (k ∷ n ∷ q ∷ es) rest (stmt.Let k.span (named N n.span) None e)
-unfolding statement_of let_of label_option_of
+unfolding statement_of let_of label_option_of between_of
 binding {text = text} {N = N} {k = k} {n = n} {q = q} {s = s} kk kn kq w r ks = record {
   tree = First (Both (Leaf k) (Both (Leaf n) (Both (Second Empty) (Both (Leaf q) (Both r.tree (Leaf s))))));
   makes = m-sym (m-left (m-seq (m-tok (ap code_of kk)) (m-seq (m-tok (ap code_of kn)) (m-seq (m-right m-eps) (m-seq (m-tok (ap code_of kq)) (m-seq r.makes (m-tok (ap code_of ks))))))));
@@ -229,7 +229,7 @@ binding {text = text} {N = N} {k = k} {n = n} {q = q} {s = s} kk kn kq w r ks = 
 
 pub output : {text H : List ℕ} {es rest : List Token} {k t h s : Token} {e : Expr} → IsKind k kind.Output → Reads (Sym EXPR) expr_of text es (t ∷ h ∷ s ∷ rest) e → IsKind t kind.To → IsKind h kind.Name →
     word_at text h.span ≡ H → IsKind s kind.Semicolon → Reads (Sym STMT) statement_of text (k ∷ es) rest (stmt.Output k.span e (named H h.span))
-unfolding statement_of output_of
+unfolding statement_of output_of host_name_of
 output {text = text} {H = H} {k = k} {t = t} {h = h} {s = s} {e = e} kk r kt kh w ks = record {
   tree = Second (Second (Second (Second (First (Both (Leaf k) (Both r.tree (Both (Leaf t) (Both (Leaf h) (Leaf s)))))))));
   makes = m-sym (m-right (m-right (m-right (m-right (m-left (m-seq (m-tok (ap code_of kk)) (m-seq r.makes (m-seq (m-tok (ap code_of kt)) (m-seq (m-tok (ap code_of kh)) (m-tok (ap code_of ks)))))))))));

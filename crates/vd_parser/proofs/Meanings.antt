@@ -20,7 +20,7 @@ use Rattle.vd_core.specs.declared.source.Statement.{Statement}
 use Rattle.vd_core.specs.declared.source.Statement.TheVariants as stmt
 use Rattle.vd_core.specs.declared.source.Function.{Function}
 use Rattle.vd_source_lexer.specs.declared.token.Token.{Token}
-use Rattle.vd_parser.specs.Syntax.{bracketed, arguments_of, array_of, assign_of, assigned, atom_of, block_of, body_of, bor_of, both_of, chained, conj_of, conjs_of, direction_of, either_of, else_of, expr_of, exprs_of, fatom_of, fatoms_of, first_of, for_of, form_of, function_of, functions_of, host_list_of, host_name_of, host_of, hosts_of, ident_of, idents_of, if_of, index_of, index_option_of, infix_of, kind_of, label_of, label_option_of, length_of, let_of, more_exprs_of, more_idents_of, more_parameters_of, named_of, new_form_of, value_of, other_atom_of, output_of, parameter_list_of, parameter_of, parameters_of, principals_of, relabelled_of, return_of, returned_of, second_of, shift_segments_of, shift_of, signed, signs_of, source_of, span_of, statement_of, statements_of, sum_of, third_of, three_of, token_of, two_of, typed_kind_of, typed_name_of, typed_of, unary_of, var_of, whole_body_of, word_atom_of}
+use Rattle.vd_parser.specs.Syntax.{bracketed, arguments_of, array_of, assign_of, assigned, at_return_of, atom_of, block_of, body_of, between_of, bor_of, both_of, chained, conj_of, conjs_of, direction_of, either_of, else_of, expr_of, exprs_of, fatom_of, fatoms_of, first_of, for_of, form_of, function_of, functions_of, gives_of, host_list_of, host_name_of, host_of, hosts_of, ident_of, idents_of, if_of, index_option_of, infix_of, kind_of, label_of, label_option_of, last_line_of, length_of, let_of, more_exprs_of, more_idents_of, more_parameters_of, named_of, new_form_of, value_of, other_atom_of, output_of, parameter_list_of, parameter_of, parameters_of, principals_of, relabelled_of, return_of, returned_of, second_of, shift_segments_of, shift_of, signed, signs_of, source_of, span_of, statement_of, statements_of, sum_of, third_of, three_of, token_of, two_of, typed_kind_of, typed_name_of, typed_of, unary_of, var_of, whole_body_of, word_atom_of}
 
 pub idents_first : (text : List ℕ) (x : Tree Token) (v : Ident) → v ≡ ident_of text x → (y : Tree Token) → idents_of text (Both x y) ≡ (v ∷ []) ++ more_idents_of text y
 unfolding idents_of
@@ -166,7 +166,7 @@ pub named_call : (text : List ℕ) (n x : Tree Token) (i : Ident) (es : List Exp
 unfolding named_of
 named_call text n x i es e0 e1 = ap (λ it. expr.Call it es) e0 ∙ ap (λ it. expr.Call (ident_of text n) it) e1
 
-pub named_element : (text : List ℕ) (n x : Tree Token) (i : Ident) (e : Expr) → i ≡ ident_of text n → e ≡ index_of text x → expr.Element i e ≡ named_of text (Both n (First (Second x)))
+pub named_element : (text : List ℕ) (n x : Tree Token) (i : Ident) (e : Expr) → i ≡ ident_of text n → e ≡ between_of text x → expr.Element i e ≡ named_of text (Both n (First (Second x)))
 unfolding named_of
 named_element text n x i e e0 e1 = ap (λ it. expr.Element it e) e0 ∙ ap (λ it. expr.Element (ident_of text n) it) e1
 
@@ -174,9 +174,9 @@ pub named_value : (text : List ℕ) (n x : Tree Token) (i : Ident) → i ≡ ide
 unfolding named_of
 named_value text n x i e0 = ap (λ it. expr.Value it) e0
 
-pub index_is : (text : List ℕ) (o x p : Tree Token) (e : Expr) → e ≡ expr_of text x → e ≡ index_of text (Both o (Both x p))
-unfolding index_of
-index_is text o x p e e0 = ap (λ it. it) e0
+pub between_is : (text : List ℕ) (o x p : Tree Token) (e : Expr) → e ≡ expr_of text x → e ≡ between_of text (Both o (Both x p))
+unfolding between_of
+between_is text o x p e e0 = e0
 
 pub two_is : (text : List ℕ) (o a c b p : Tree Token) (x : Expr) (y : Expr) → x ≡ expr_of text a → y ≡ expr_of text b → (x, y) ≡ two_of text (Both o (Both a (Both c (Both b p))))
 unfolding first_of second_of
@@ -214,17 +214,17 @@ pub exprs_none : (text : List ℕ) → more_exprs_of text Empty ≡ []
 unfolding more_exprs_of
 exprs_none text = refl
 
-pub let_is : (text : List ℕ) (k n l e x s : Tree Token) (at : Span) (i : Ident) (lb : Option WrittenLabel) (v : Expr) → at ≡ span_of k → i ≡ ident_of text n → lb ≡ label_option_of text l → v ≡ expr_of text x → stmt.Let at i lb v ≡ let_of text (Both k (Both n (Both l (Both e (Both x s)))))
+pub let_is : (text : List ℕ) (k n l x : Tree Token) (at : Span) (i : Ident) (lb : Option WrittenLabel) (v : Expr) → at ≡ span_of k → i ≡ ident_of text n → lb ≡ label_option_of text l → v ≡ between_of text x → stmt.Let at i lb v ≡ let_of text (Both k (Both n (Both l x)))
 unfolding let_of
-let_is text k n l e x s at i lb v e0 e1 e2 e3 = ap (λ it. stmt.Let it i lb v) e0 ∙ ap (λ it. stmt.Let (span_of k) it lb v) e1 ∙ ap (λ it. stmt.Let (span_of k) (ident_of text n) it v) e2 ∙ ap (λ it. stmt.Let (span_of k) (ident_of text n) (label_option_of text l) it) e3
+let_is text k n l x at i lb v e0 e1 e2 e3 = ap (λ it. stmt.Let it i lb v) e0 ∙ ap (λ it. stmt.Let (span_of k) it lb v) e1 ∙ ap (λ it. stmt.Let (span_of k) (ident_of text n) it v) e2 ∙ ap (λ it. stmt.Let (span_of k) (ident_of text n) (label_option_of text l) it) e3
 
 pub typed_is : (text : List ℕ) (n c k : Tree Token) (i : Ident) (kd : Kind) → i ≡ ident_of text n → kd ≡ kind_of k → (i, kd) ≡ typed_of text (Both n (Both c k))
 unfolding typed_name_of typed_kind_of
 typed_is text n c k i kd e0 e1 = ap (λ it. (it, kd)) e0 ∙ ap (λ it. ((ident_of text n), it)) e1
 
-pub var_is : (text : List ℕ) (k t l e x s : Tree Token) (at : Span) (i : Ident) (kd : Kind) (lb : Option WrittenLabel) (v : Expr) → at ≡ span_of k → i ≡ typed_name_of text t → kd ≡ typed_kind_of t → lb ≡ label_option_of text l → v ≡ expr_of text x → stmt.Var at i kd lb v ≡ var_of text (Both k (Both t (Both l (Both e (Both x s)))))
+pub var_is : (text : List ℕ) (k t l x : Tree Token) (at : Span) (i : Ident) (kd : Kind) (lb : Option WrittenLabel) (v : Expr) → at ≡ span_of k → i ≡ typed_name_of text t → kd ≡ typed_kind_of t → lb ≡ label_option_of text l → v ≡ between_of text x → stmt.Var at i kd lb v ≡ var_of text (Both k (Both t (Both l x)))
 unfolding var_of
-var_is text k t l e x s at i kd lb v e0 e1 e2 e3 e4 = ap (λ it. stmt.Var it i kd lb v) e0 ∙ ap (λ it. stmt.Var (span_of k) it kd lb v) e1 ∙ ap (λ it. stmt.Var (span_of k) (typed_name_of text t) it lb v) e2 ∙ ap (λ it. stmt.Var (span_of k) (typed_name_of text t) (typed_kind_of t) it v) e3 ∙ ap (λ it. stmt.Var (span_of k) (typed_name_of text t) (typed_kind_of t) (label_option_of text l) it) e4
+var_is text k t l x at i kd lb v e0 e1 e2 e3 e4 = ap (λ it. stmt.Var it i kd lb v) e0 ∙ ap (λ it. stmt.Var (span_of k) it kd lb v) e1 ∙ ap (λ it. stmt.Var (span_of k) (typed_name_of text t) it lb v) e2 ∙ ap (λ it. stmt.Var (span_of k) (typed_name_of text t) (typed_kind_of t) it v) e3 ∙ ap (λ it. stmt.Var (span_of k) (typed_name_of text t) (typed_kind_of t) (label_option_of text l) it) e4
 
 pub length_is : (text : List ℕ) (o n p : Tree Token) (len : ℕ) → len ≡ value_of n → len ≡ length_of (Both o (Both n p))
 unfolding length_of
@@ -234,7 +234,7 @@ pub array_is : (text : List ℕ) (k t m l s : Tree Token) (at : Span) (i : Ident
 unfolding array_of
 array_is text k t m l s at i kd len lb e0 e1 e2 e3 e4 = ap (λ it. stmt.Array it i kd len lb) e0 ∙ ap (λ it. stmt.Array (span_of k) it kd len lb) e1 ∙ ap (λ it. stmt.Array (span_of k) (typed_name_of text t) it len lb) e2 ∙ ap (λ it. stmt.Array (span_of k) (typed_name_of text t) (typed_kind_of t) it lb) e3 ∙ ap (λ it. stmt.Array (span_of k) (typed_name_of text t) (typed_kind_of t) (length_of m) it) e4
 
-pub index_some : (text : List ℕ) (x : Tree Token) (e : Expr) → e ≡ index_of text x → Some e ≡ index_option_of text (First x)
+pub index_some : (text : List ℕ) (x : Tree Token) (e : Expr) → e ≡ between_of text x → Some e ≡ index_option_of text (First x)
 unfolding index_option_of
 index_some text x e e0 = ap (λ it. Some it) e0
 
@@ -242,13 +242,13 @@ pub index_none : (text : List ℕ) (x : Tree Token) → None ≡ index_option_of
 unfolding index_option_of
 index_none text x = refl
 
-pub assign_is : (text : List ℕ) (n i a x s : Tree Token) (name : Ident) (ix : Option Expr) (v : Expr) → name ≡ ident_of text n → ix ≡ index_option_of text i → v ≡ expr_of text x → assigned name ix v ≡ assign_of text (Both n (Both i (Both a (Both x s))))
+pub assign_is : (text : List ℕ) (n i x : Tree Token) (name : Ident) (ix : Option Expr) (v : Expr) → name ≡ ident_of text n → ix ≡ index_option_of text i → v ≡ between_of text x → assigned name ix v ≡ assign_of text (Both n (Both i x))
 unfolding assign_of
-assign_is text n i a x s name ix v e0 e1 e2 = ap (λ it. assigned it ix v) e0 ∙ ap (λ it. assigned (ident_of text n) it v) e1 ∙ ap (λ it. assigned (ident_of text n) (index_option_of text i) it) e2
+assign_is text n i x name ix v e0 e1 e2 = ap (λ it. assigned it ix v) e0 ∙ ap (λ it. assigned (ident_of text n) it v) e1 ∙ ap (λ it. assigned (ident_of text n) (index_option_of text i) it) e2
 
-pub output_is : (text : List ℕ) (k x t n s : Tree Token) (at : Span) (v : Expr) (i : Ident) → at ≡ span_of k → v ≡ expr_of text x → i ≡ ident_of text n → stmt.Output at v i ≡ output_of text (Both k (Both x (Both t (Both n s))))
+pub output_is : (text : List ℕ) (k x h : Tree Token) (at : Span) (v : Expr) (i : Ident) → at ≡ span_of k → v ≡ expr_of text x → i ≡ host_name_of text h → stmt.Output at v i ≡ output_of text (Both k (Both x h))
 unfolding output_of
-output_is text k x t n s at v i e0 e1 e2 = ap (λ it. stmt.Output it v i) e0 ∙ ap (λ it. stmt.Output (span_of k) it i) e1 ∙ ap (λ it. stmt.Output (span_of k) (expr_of text x) it) e2
+output_is text k x h at v i e0 e1 e2 = ap (λ it. stmt.Output it v i) e0 ∙ ap (λ it. stmt.Output (span_of k) it i) e1 ∙ ap (λ it. stmt.Output (span_of k) (expr_of text x) it) e2
 
 pub block_is : (text : List ℕ) (o x p : Tree Token) (ss : List Statement) → ss ≡ statements_of text x → ss ≡ block_of text (Both o (Both x p))
 unfolding block_of
@@ -290,9 +290,9 @@ pub statement_for : (text : List ℕ) (x : Tree Token) → for_of text x ≡ sta
 unfolding statement_of
 statement_for text x = refl
 
-pub if_is : (text : List ℕ) (k o x c b e : Tree Token) (at : Span) (g : Expr) (ts : List Statement) (es : List Statement) → at ≡ span_of k → g ≡ expr_of text x → ts ≡ block_of text b → es ≡ else_of text e → stmt.If at g ts es ≡ if_of text (Both k (Both o (Both x (Both c (Both b e)))))
+pub if_is : (text : List ℕ) (k x b e : Tree Token) (at : Span) (g : Expr) (ts : List Statement) (es : List Statement) → at ≡ span_of k → g ≡ between_of text x → ts ≡ block_of text b → es ≡ else_of text e → stmt.If at g ts es ≡ if_of text (Both k (Both x (Both b e)))
 unfolding if_of
-if_is text k o x c b e at g ts es e0 e1 e2 e3 = ap (λ it. stmt.If it g ts es) e0 ∙ ap (λ it. stmt.If (span_of k) it ts es) e1 ∙ ap (λ it. stmt.If (span_of k) (expr_of text x) it es) e2 ∙ ap (λ it. stmt.If (span_of k) (expr_of text x) (block_of text b) it) e3
+if_is text k x b e at g ts es e0 e1 e2 e3 = ap (λ it. stmt.If it g ts es) e0 ∙ ap (λ it. stmt.If (span_of k) it ts es) e1 ∙ ap (λ it. stmt.If (span_of k) (between_of text x) it es) e2 ∙ ap (λ it. stmt.If (span_of k) (between_of text x) (block_of text b) it) e3
 
 pub else_some : (text : List ℕ) (k b : Tree Token) (ss : List Statement) → ss ≡ block_of text b → ss ≡ else_of text (First (Both k b))
 unfolding else_of
@@ -342,9 +342,13 @@ pub hosts_none : (text : List ℕ) → hosts_of text Empty ≡ []
 unfolding hosts_of
 hosts_none text = refl
 
-pub body_is : (text : List ℕ) (o ss r x s d : Tree Token) (body : List Statement) (at : Span) (v : Expr) → body ≡ statements_of text ss → at ≡ span_of r → v ≡ expr_of text x → (body, at, v) ≡ whole_body_of text (Both o (Both ss (Both r (Both x (Both s d)))))
+pub last_line_is : (text : List ℕ) (r x s d : Tree Token) (at : Span) (v : Expr) → at ≡ span_of r → v ≡ expr_of text x → (at, v) ≡ last_line_of text (Both r (Both x (Both s d)))
+unfolding at_return_of gives_of
+last_line_is text r x s d at v e0 e1 = ap (λ it. (it, v)) e0 ∙ ap (λ it. (span_of r, it)) e1
+
+pub body_is : (text : List ℕ) (o ss r : Tree Token) (body : List Statement) (at : Span) (v : Expr) → body ≡ statements_of text ss → at ≡ at_return_of r → v ≡ gives_of text r → (body, at, v) ≡ whole_body_of text (Both o (Both ss r))
 unfolding body_of return_of returned_of
-body_is text o ss r x s d body at v e0 e1 e2 = ap (λ it. (it, at, v)) e0 ∙ ap (λ it. ((statements_of text ss), it, v)) e1 ∙ ap (λ it. ((statements_of text ss), (span_of r), it)) e2
+body_is text o ss r body at v e0 e1 e2 = ap (λ it. (it, at, v)) e0 ∙ ap (λ it. ((statements_of text ss), it, v)) e1 ∙ ap (λ it. ((statements_of text ss), (at_return_of r), it)) e2
 
 pub function_is : (text : List ℕ) (f n ps c k b : Tree Token) (i : Ident) (pl : List Parameter) (kd : Kind) (body : List Statement) (at : Span) (v : Expr) → i ≡ ident_of text n → pl ≡ parameters_of text ps → kd ≡ kind_of k → body ≡ body_of text b → at ≡ return_of b → v ≡ returned_of text b → record { name = i; parameters = pl; kind = kd; body = body; at_return = at; gives = v } ≡ function_of text (Both f (Both n (Both ps (Both c (Both k b)))))
 unfolding function_of

@@ -25,7 +25,7 @@ document ATOM =
     ∣ tok kind.Min ▸ two_rule
     ∣ tok kind.Max ▸ two_rule
     ∣ tok kind.Mux ▸ three_rule
-    ∣ tok kind.Input ▸ host_rule
+    ∣ tok kind.Input ▸ host_rule kind.OpenParen kind.CloseParen
     ∣ tok kind.Declassify ▸ relabel_rule
     ∣ tok kind.Endorse ▸ relabel_rule
     ∣ brackets_rule

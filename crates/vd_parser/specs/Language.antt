@@ -22,15 +22,19 @@ commas e = separated (code_of kind.Comma) e
 abbrev pub chain_of : Ebnf Symbol → Ebnf Symbol → Ebnf Symbol
 chain_of e o = e ▸ Star (o ▸ e)
 
+-- an expression between two tokens
+abbrev pub between_rule : TokenKind → TokenKind → Ebnf Symbol
+between_rule k l = tok k ▸ Sym EXPR ▸ tok l
+
 abbrev pub let_rule : Ebnf Symbol
-let_rule = tok kind.Let ▸ tok kind.Name ▸ optional (Sym LABEL) ▸ tok kind.Equal ▸ Sym EXPR ▸ tok kind.Semicolon
+let_rule = tok kind.Let ▸ tok kind.Name ▸ optional (Sym LABEL) ▸ between_rule kind.Equal kind.Semicolon
 
 -- NAME ":" kind
 abbrev pub typed_rule : Ebnf Symbol
 typed_rule = tok kind.Name ▸ tok kind.Colon ▸ Sym KIND
 
 abbrev pub var_rule : Ebnf Symbol
-var_rule = tok kind.Var ▸ typed_rule ▸ optional (Sym LABEL) ▸ tok kind.Equal ▸ Sym EXPR ▸ tok kind.Semicolon
+var_rule = tok kind.Var ▸ typed_rule ▸ optional (Sym LABEL) ▸ between_rule kind.Equal kind.Semicolon
 
 -- "[" NUM "]"
 abbrev pub length_rule : Ebnf Symbol
@@ -41,20 +45,28 @@ array_rule = tok kind.Array ▸ typed_rule ▸ length_rule ▸ optional (Sym LAB
 
 -- "[" expr "]"
 abbrev pub index_rule : Ebnf Symbol
-index_rule = tok kind.OpenBracket ▸ Sym EXPR ▸ tok kind.CloseBracket
+index_rule = between_rule kind.OpenBracket kind.CloseBracket
 
 abbrev pub assign_rule : Ebnf Symbol
-assign_rule = tok kind.Name ▸ optional index_rule ▸ tok kind.Assign ▸ Sym EXPR ▸ tok kind.Semicolon
+assign_rule = tok kind.Name ▸ optional index_rule ▸ between_rule kind.Assign kind.Semicolon
+
+-- a host's name between two tokens
+abbrev pub host_rule : TokenKind → TokenKind → Ebnf Symbol
+host_rule k l = tok k ▸ tok kind.Name ▸ tok l
 
 abbrev pub output_rule : Ebnf Symbol
-output_rule = tok kind.Output ▸ Sym EXPR ▸ tok kind.To ▸ tok kind.Name ▸ tok kind.Semicolon
+output_rule = tok kind.Output ▸ Sym EXPR ▸ host_rule kind.To kind.Semicolon
+
+-- "(" expr ")"
+abbrev pub brackets_rule : Ebnf Symbol
+brackets_rule = between_rule kind.OpenParen kind.CloseParen
 
 -- "else" block
 abbrev pub else_rule : Ebnf Symbol
 else_rule = tok kind.Else ▸ Sym BLOCK
 
 abbrev pub if_rule : Ebnf Symbol
-if_rule = tok kind.If ▸ tok kind.OpenParen ▸ Sym EXPR ▸ tok kind.CloseParen ▸ Sym BLOCK ▸ optional else_rule
+if_rule = tok kind.If ▸ brackets_rule ▸ Sym BLOCK ▸ optional else_rule
 
 abbrev pub for_rule : Ebnf Symbol
 for_rule = tok kind.For ▸ tok kind.Name ▸ tok kind.To ▸ tok kind.Number ▸ Sym BLOCK
@@ -75,14 +87,6 @@ three_rule = tok kind.OpenParen ▸ Sym EXPR ▸ tok kind.Comma ▸ Sym EXPR ▸
 abbrev pub relabel_rule : Ebnf Symbol
 relabel_rule = tok kind.OpenParen ▸ Sym EXPR ▸ tok kind.Comma ▸ tok kind.OpenBrace ▸ Sym FORM ▸ tok kind.CloseBrace ▸ tok kind.CloseParen
 
--- "(" NAME ")"
-abbrev pub host_rule : Ebnf Symbol
-host_rule = tok kind.OpenParen ▸ tok kind.Name ▸ tok kind.CloseParen
-
--- "(" expr ")"
-abbrev pub brackets_rule : Ebnf Symbol
-brackets_rule = tok kind.OpenParen ▸ Sym EXPR ▸ tok kind.CloseParen
-
 -- what may come after a name in an expression
 abbrev pub after_name : Ebnf Symbol
 after_name = optional (arguments_rule ∣ index_rule)
@@ -94,7 +98,7 @@ named_rule = tok kind.Name ▸ after_name
 abbrev pub other_atom_rule : Ebnf Symbol
 other_atom_rule =
     tok kind.Mux ▸ three_rule
-    ∣ tok kind.Input ▸ host_rule
+    ∣ tok kind.Input ▸ host_rule kind.OpenParen kind.CloseParen
     ∣ tok kind.Declassify ▸ relabel_rule
     ∣ tok kind.Endorse ▸ relabel_rule
     ∣ brackets_rule
@@ -106,9 +110,13 @@ word_atom_rule = named_rule ∣ tok kind.Min ▸ two_rule ∣ tok kind.Max ▸ t
 abbrev pub parameters_rule : Ebnf Symbol
 parameters_rule = tok kind.OpenParen ▸ optional (commas (Sym PARAM)) ▸ tok kind.CloseParen
 
+-- "return" expr ";" "}"
+abbrev pub return_rule : Ebnf Symbol
+return_rule = tok kind.Return ▸ Sym EXPR ▸ tok kind.Semicolon ▸ tok kind.CloseBrace
+
 -- "{" {stmt} "return" expr ";" "}"
 abbrev pub body_rule : Ebnf Symbol
-body_rule = tok kind.OpenBrace ▸ Star (Sym STMT) ▸ tok kind.Return ▸ Sym EXPR ▸ tok kind.Semicolon ▸ tok kind.CloseBrace
+body_rule = tok kind.OpenBrace ▸ Star (Sym STMT) ▸ return_rule
 
 -- "principals" NAME {"," NAME} ";"
 abbrev pub principals_rule : Ebnf Symbol

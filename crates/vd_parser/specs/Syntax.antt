@@ -121,7 +121,7 @@ unfoldable pub label_option_of : List ℕ → Tree Token → Option WrittenLabel
 label_option_of text (First x) = Some (label_of text x)
 label_option_of text _ = None
 
--- the name in round brackets
+-- the name between two tokens
 unfoldable pub host_name_of : List ℕ → Tree Token → Ident
 host_name_of text (Both o (Both n p)) = ident_of text n
 host_name_of text _ = ident_of text Empty
@@ -264,13 +264,14 @@ unfoldable mutual
   -- a name with what comes after it: arguments, an index, or nothing
   pub named_of : List ℕ → Tree Token → Expr
   named_of text (Both n (First (First x))) = expr.Call (ident_of text n) (arguments_of text x)
-  named_of text (Both n (First (Second x))) = expr.Element (ident_of text n) (index_of text x)
+  named_of text (Both n (First (Second x))) = expr.Element (ident_of text n) (between_of text x)
   named_of text (Both n (Second x)) = expr.Value (ident_of text n)
   named_of text _ = expr.Number 0
 
-  pub index_of : List ℕ → Tree Token → Expr
-  index_of text (Both o (Both i p)) = expr_of text i
-  index_of text _ = expr.Number 0
+  -- the expression between two tokens
+  pub between_of : List ℕ → Tree Token → Expr
+  between_of text (Both o (Both i p)) = expr_of text i
+  between_of text _ = expr.Number 0
 
   -- the expressions in round brackets, by number
   pub first_of : List ℕ → Tree Token → Expr
@@ -308,7 +309,7 @@ abbrev pub relabelled_of : List ℕ → Tree Token → Expr × WrittenForm
 relabelled_of text x = (first_of text x, new_form_of text x)
 
 unfoldable pub let_of : List ℕ → Tree Token → Statement
-let_of text (Both k (Both n (Both l (Both e (Both x s))))) = stmt.Let (span_of k) (ident_of text n) (label_option_of text l) (expr_of text x)
+let_of text (Both k (Both n (Both l x))) = stmt.Let (span_of k) (ident_of text n) (label_option_of text l) (between_of text x)
 let_of text _ = stmt.Let (span_of Empty) (ident_of text Empty) None (expr.Number 0)
 
 -- a name and its kind
@@ -324,7 +325,7 @@ abbrev pub typed_of : List ℕ → Tree Token → Ident × Kind
 typed_of text x = (typed_name_of text x, typed_kind_of x)
 
 unfoldable pub var_of : List ℕ → Tree Token → Statement
-var_of text (Both k (Both t (Both l (Both e (Both x s))))) = stmt.Var (span_of k) (typed_name_of text t) (typed_kind_of t) (label_option_of text l) (expr_of text x)
+var_of text (Both k (Both t (Both l x))) = stmt.Var (span_of k) (typed_name_of text t) (typed_kind_of t) (label_option_of text l) (between_of text x)
 var_of text _ = stmt.Let (span_of Empty) (ident_of text Empty) None (expr.Number 0)
 
 unfoldable pub length_of : Tree Token → ℕ
@@ -336,7 +337,7 @@ array_of text (Both k (Both t (Both m (Both l s)))) = stmt.Array (span_of k) (ty
 array_of text _ = stmt.Let (span_of Empty) (ident_of text Empty) None (expr.Number 0)
 
 unfoldable pub index_option_of : List ℕ → Tree Token → Option Expr
-index_option_of text (First x) = Some (index_of text x)
+index_option_of text (First x) = Some (between_of text x)
 index_option_of text _ = None
 
 abbrev pub assigned : Ident → Option Expr → Expr → Statement
@@ -344,11 +345,11 @@ assigned name None value = stmt.Store name value
 assigned name (Some index) value = stmt.Put name index value
 
 unfoldable pub assign_of : List ℕ → Tree Token → Statement
-assign_of text (Both n (Both i (Both a (Both x s)))) = assigned (ident_of text n) (index_option_of text i) (expr_of text x)
+assign_of text (Both n (Both i x)) = assigned (ident_of text n) (index_option_of text i) (between_of text x)
 assign_of text _ = stmt.Let (span_of Empty) (ident_of text Empty) None (expr.Number 0)
 
 unfoldable pub output_of : List ℕ → Tree Token → Statement
-output_of text (Both k (Both x (Both t (Both n s)))) = stmt.Output (span_of k) (expr_of text x) (ident_of text n)
+output_of text (Both k (Both x h)) = stmt.Output (span_of k) (expr_of text x) (host_name_of text h)
 output_of text _ = stmt.Let (span_of Empty) (ident_of text Empty) None (expr.Number 0)
 
 unfoldable mutual
@@ -371,7 +372,7 @@ unfoldable mutual
   statement_of text _ = stmt.Let (span_of Empty) (ident_of text Empty) None (expr.Number 0)
 
   pub if_of : List ℕ → Tree Token → Statement
-  if_of text (Both k (Both o (Both x (Both c (Both b e))))) = stmt.If (span_of k) (expr_of text x) (block_of text b) (else_of text e)
+  if_of text (Both k (Both x (Both b e))) = stmt.If (span_of k) (between_of text x) (block_of text b) (else_of text e)
   if_of text _ = stmt.Let (span_of Empty) (ident_of text Empty) None (expr.Number 0)
 
   pub else_of : List ℕ → Tree Token → List Statement
@@ -405,17 +406,29 @@ unfoldable pub hosts_of : List ℕ → Tree Token → List Host
 hosts_of text (Both x r) = host_of text x ∷ hosts_of text r
 hosts_of text _ = []
 
+-- the last line of a function's body: where it stands, and what it gives
+unfoldable pub at_return_of : Tree Token → Span
+at_return_of (Both r x) = span_of r
+at_return_of _ = span_of Empty
+
+unfoldable pub gives_of : List ℕ → Tree Token → Expr
+gives_of text (Both r (Both x y)) = expr_of text x
+gives_of text _ = expr.Number 0
+
+abbrev pub last_line_of : List ℕ → Tree Token → Span × Expr
+last_line_of text x = (at_return_of x, gives_of text x)
+
 -- the parts of a function's body
 unfoldable pub body_of : List ℕ → Tree Token → List Statement
 body_of text (Both o (Both ss r)) = statements_of text ss
 body_of text _ = []
 
 unfoldable pub return_of : Tree Token → Span
-return_of (Both o (Both ss (Both r x))) = span_of r
+return_of (Both o (Both ss r)) = at_return_of r
 return_of _ = span_of Empty
 
 unfoldable pub returned_of : List ℕ → Tree Token → Expr
-returned_of text (Both o (Both ss (Both r (Both x y)))) = expr_of text x
+returned_of text (Both o (Both ss r)) = gives_of text r
 returned_of text _ = expr.Number 0
 
 abbrev pub whole_body_of : List ℕ → Tree Token → List Statement × Span × Expr

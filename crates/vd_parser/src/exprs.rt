@@ -1,7 +1,8 @@
-ghost use Rattle.std.specs.Prelude.{◌≡◌, length, IfOk};
+ghost use Rattle.std.specs.Prelude.{◌≡◌, ◌≢◌, length, IfOk};
 ghost use Rattle.vd_source_lexer.specs.Grammar.{Sym};
+ghost use Rattle.vd_source_lexer.specs.Kinds.{code_of};
 ghost use Rattle.vd_parser.specs.Language.{EXPR, SHIFT, UNARY, ATOM, commas, word_atom_rule, other_atom_rule, named_rule, arguments_rule, index_rule, two_rule, three_rule, relabel_rule, host_rule};
-ghost use Rattle.vd_parser.specs.Syntax.{bracketed, is_bracketed, chained, expr_of, shift_of, unary_of, atom_of, word_atom_of, other_atom_of, named_of, arguments_of, exprs_of, index_of, two_of, three_of, relabelled_of, host_name_of};
+ghost use Rattle.vd_parser.specs.Syntax.{bracketed, is_bracketed, chained, expr_of, shift_of, unary_of, atom_of, word_atom_of, other_atom_of, named_of, arguments_of, exprs_of, between_of, two_of, three_of, relabelled_of, host_name_of};
 ghost use Rattle.vd_parser.specs.Levels.{symbol_of, operand_symbol, level_of, operand_of};
 ghost use Rattle.vd_parser.specs.Parsing.{Parses};
 
@@ -193,7 +194,7 @@ impl<'a> Parser<'a> {
             Ok(Expr::Mux(token.span, guard, left, right))
         } else if cursor.is(TokenKind::Input) {
             cursor.expect(TokenKind::Input)?;
-            let host = self.host_name(cursor)?;
+            let host = self.host_name(cursor, TokenKind::OpenParen, TokenKind::CloseParen)?;
             Ok(Expr::Input(host))
         } else if cursor.is(TokenKind::Declassify) {
             cursor.expect(TokenKind::Declassify)?;
@@ -264,7 +265,7 @@ impl<'a> Parser<'a> {
     /// "[" expr "]"
     #[cycle(expr)]
     pub fn index(&self, cursor: &mut Cursor) -> Result<Expr, Refusal>
-        ensures { Parses index_rule (index_of self.now.text.now) cursor.old cursor.new result }
+        ensures { Parses index_rule (between_of self.now.text.now) cursor.old cursor.new result }
     {
         cursor.expect(TokenKind::OpenBracket)?;
         let index = self.expr(cursor)?;
@@ -315,13 +316,20 @@ impl<'a> Parser<'a> {
         Ok((value, form))
     }
 
-    /// "(" NAME ")"
-    fn host_name(&self, cursor: &mut Cursor) -> Result<Ident, Refusal>
-        ensures { Parses host_rule (host_name_of self.now.text.now) cursor.old cursor.new result }
+    /// A host's name between two tokens.
+    pub(crate) fn host_name(
+        &self,
+        cursor: &mut Cursor,
+        before: TokenKind,
+        behind: TokenKind,
+    ) -> Result<Ident, Refusal>
+        requires starts { code_of before ≢ 0 }
+        requires ends { code_of behind ≢ 0 }
+        ensures { Parses (host_rule before behind) (host_name_of self.now.text.now) cursor.old cursor.new result }
     {
-        cursor.expect(TokenKind::OpenParen)?;
+        cursor.expect(before)?;
         let name = self.ident(cursor)?;
-        cursor.expect(TokenKind::CloseParen)?;
+        cursor.expect(behind)?;
         Ok(name)
     }
 }

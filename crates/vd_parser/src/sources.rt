@@ -1,7 +1,7 @@
 ghost use Rattle.std.specs.Prelude.{◌≡◌};
 ghost use Rattle.vd_source_lexer.specs.Grammar.{Sym, Star};
-ghost use Rattle.vd_parser.specs.Language.{SOURCE, HOST, FUN, PARAM, commas, principals_rule, hosts_rule, parameters_rule, body_rule};
-ghost use Rattle.vd_parser.specs.Syntax.{source_of, principals_of, host_of, host_list_of, function_of, functions_of, whole_body_of, parameter_of, parameter_list_of, parameters_of};
+ghost use Rattle.vd_parser.specs.Language.{SOURCE, HOST, FUN, PARAM, commas, principals_rule, hosts_rule, parameters_rule, body_rule, return_rule};
+ghost use Rattle.vd_parser.specs.Syntax.{source_of, principals_of, host_of, host_list_of, function_of, functions_of, whole_body_of, last_line_of, parameter_of, parameter_list_of, parameters_of};
 ghost use Rattle.vd_parser.specs.Parsing.{Parses};
 
 use crate::cursor::{Cursor, Refusal};
@@ -101,11 +101,19 @@ impl<'a> Parser<'a> {
     {
         cursor.expect(TokenKind::OpenBrace)?;
         let statements = self.statements(cursor)?;
-        let last = cursor.expect(TokenKind::Return)?;
+        let (at_return, gives) = self.last_line(cursor)?;
+        Ok((statements, at_return, gives))
+    }
+
+    /// "return" expr ";" "}"
+    fn last_line(&self, cursor: &mut Cursor) -> Result<(Span, Expr), Refusal>
+        ensures { Parses return_rule (last_line_of self.now.text.now) cursor.old cursor.new result }
+    {
+        let first = cursor.expect(TokenKind::Return)?;
         let gives = self.expr(cursor)?;
         cursor.expect(TokenKind::Semicolon)?;
         cursor.expect(TokenKind::CloseBrace)?;
-        Ok((statements, last.span, gives))
+        Ok((first.span, gives))
     }
 
     /// "(" [param {"," param}] ")"

@@ -1,7 +1,8 @@
-ghost use Rattle.std.specs.Prelude.{◌≡◌};
+ghost use Rattle.std.specs.Prelude.{◌≡◌, ◌≢◌};
 ghost use Rattle.vd_source_lexer.specs.Grammar.{Sym, Star, optional};
-ghost use Rattle.vd_parser.specs.Language.{BLOCK, STMT, let_rule, var_rule, array_rule, assign_rule, length_rule, output_rule, if_rule, else_rule, for_rule, index_rule};
-ghost use Rattle.vd_parser.specs.Syntax.{let_of, var_of, array_of, length_of, assign_of, assigned, index_option_of, output_of, if_of, else_of, for_of, block_of, statements_of, statement_of};
+ghost use Rattle.vd_source_lexer.specs.Kinds.{code_of};
+ghost use Rattle.vd_parser.specs.Language.{BLOCK, STMT, between_rule, let_rule, var_rule, array_rule, assign_rule, length_rule, output_rule, if_rule, else_rule, for_rule, index_rule};
+ghost use Rattle.vd_parser.specs.Syntax.{between_of, let_of, var_of, array_of, length_of, assign_of, assigned, index_option_of, output_of, if_of, else_of, for_of, block_of, statements_of, statement_of};
 ghost use Rattle.vd_parser.specs.Levels.{begins_statement};
 ghost use Rattle.vd_parser.specs.Parsing.{Parses};
 
@@ -80,6 +81,23 @@ impl<'a> Parser<'a> {
         }
     }
 
+    /// An expression between two tokens.
+    fn between(
+        &self,
+        cursor: &mut Cursor,
+        before: TokenKind,
+        behind: TokenKind,
+    ) -> Result<Expr, Refusal>
+        requires starts { code_of before ≢ 0 }
+        requires ends { code_of behind ≢ 0 }
+        ensures { Parses (between_rule before behind) (between_of self.now.text.now) cursor.old cursor.new result }
+    {
+        cursor.expect(before)?;
+        let value = self.expr(cursor)?;
+        cursor.expect(behind)?;
+        Ok(value)
+    }
+
     /// "let" NAME [label] "=" expr ";"
     fn let_statement(&self, cursor: &mut Cursor) -> Result<Statement, Refusal>
         ensures { Parses let_rule (let_of self.now.text.now) cursor.old cursor.new result }
@@ -87,9 +105,7 @@ impl<'a> Parser<'a> {
         let first = cursor.expect(TokenKind::Let)?;
         let name = self.ident(cursor)?;
         let label = self.label_option(cursor)?;
-        cursor.expect(TokenKind::Equal)?;
-        let value = self.expr(cursor)?;
-        cursor.expect(TokenKind::Semicolon)?;
+        let value = self.between(cursor, TokenKind::Equal, TokenKind::Semicolon)?;
         Ok(Statement::Let {
             at: first.span,
             name,
@@ -105,9 +121,7 @@ impl<'a> Parser<'a> {
         let first = cursor.expect(TokenKind::Var)?;
         let (name, kind) = self.typed(cursor)?;
         let label = self.label_option(cursor)?;
-        cursor.expect(TokenKind::Equal)?;
-        let value = self.expr(cursor)?;
-        cursor.expect(TokenKind::Semicolon)?;
+        let value = self.between(cursor, TokenKind::Equal, TokenKind::Semicolon)?;
         Ok(Statement::Var {
             at: first.span,
             name,
@@ -151,9 +165,7 @@ impl<'a> Parser<'a> {
     {
         let name = self.ident(cursor)?;
         let index = self.index_option(cursor)?;
-        cursor.expect(TokenKind::Assign)?;
-        let value = self.expr(cursor)?;
-        cursor.expect(TokenKind::Semicolon)?;
+        let value = self.between(cursor, TokenKind::Assign, TokenKind::Semicolon)?;
         Ok(assigned(name, index, value))
     }
 
@@ -175,9 +187,7 @@ impl<'a> Parser<'a> {
     {
         let first = cursor.expect(TokenKind::Output)?;
         let value = self.expr(cursor)?;
-        cursor.expect(TokenKind::To)?;
-        let host = self.ident(cursor)?;
-        cursor.expect(TokenKind::Semicolon)?;
+        let host = self.host_name(cursor, TokenKind::To, TokenKind::Semicolon)?;
         Ok(Statement::Output {
             at: first.span,
             value,
@@ -191,9 +201,7 @@ impl<'a> Parser<'a> {
         ensures { Parses if_rule (if_of self.now.text.now) cursor.old cursor.new result }
     {
         let first = cursor.expect(TokenKind::If)?;
-        cursor.expect(TokenKind::OpenParen)?;
-        let guard = self.expr(cursor)?;
-        cursor.expect(TokenKind::CloseParen)?;
+        let guard = self.between(cursor, TokenKind::OpenParen, TokenKind::CloseParen)?;
         let then_block = self.block(cursor)?;
         let else_block = self.else_block(cursor)?;
         Ok(Statement::If {

@@ -5,7 +5,7 @@ use Rattle.vd_parser.specs.Language.{ATOM, EXPR, SHIFT, UNARY, named_rule, other
 use Rattle.vd_parser.specs.Syntax.{atom_of, named_of, other_atom_of, word_atom_of}
 use Rattle.vd_parser.specs.Levels.{comparison_at, direction_at, infix_at}
 use Rattle.vd_parser.proofs.Steps.{as_given, collects_first, end_after, into_left, into_right, last, last_none, more_after, next, next_open, past_two, refused_first, refused_last, refused_open, rule_start, skip_known, start, stop_after}
-use Rattle.vd_parser.proofs.Meanings.{arguments_empty, arguments_some, atom_false, atom_number, atom_true, atom_word, expr_alone, expr_compared, exprs_first, exprs_more, exprs_none, index_is, named_call, named_element, named_value, other_brackets, other_declassify, other_endorse, other_input, other_mux, relabelled_is, shift_is, three_is, two_is, unary_is, word_max, word_min, word_named, word_other}
+use Rattle.vd_parser.proofs.Meanings.{arguments_empty, arguments_some, atom_false, atom_number, atom_true, atom_word, between_is, expr_alone, expr_compared, exprs_first, exprs_more, exprs_none, named_call, named_element, named_value, other_brackets, other_declassify, other_endorse, other_input, other_mux, relabelled_is, shift_is, three_is, two_is, unary_is, word_max, word_min, word_named, word_other}
 use Rattle.vd_parser.proofs.Precedence.{compared, comparison_op, comparison_token, level_is, level_start, no_more, no_shift, not_compared, one_more, one_shift, stop_more, stop_shift}
 use Rattle.vd_parser.proofs.parser.Parser.+expr.Goals as goal
 
@@ -375,7 +375,7 @@ index-returns t c =
     let w0 = start in
     let w1 = next w0 c.in_ok-expect.ensures.token in
     let w2 = next w1 c.in_ok-index.ensures in
-    last w2 c.in_ok-expect-2.ensures.token (index_is _ _ _ _ _ c.in_ok-index.ensures.value)
+    last w2 c.in_ok-expect-2.ensures.token (between_is _ _ _ _ _ c.in_ok-index.ensures.value)
 
 pub two-returns-in_err-expect : goal.two-returns-in_err-expect
 two-returns-in_err-expect t c =

@@ -93,60 +93,37 @@ if_statement-returns-in_err-first t c =
     let p = err_from_is_err_and c.from_residual.result c.from_residual.ensures.1 in
     rw (p.1, p.2) (refused_first w0 c.in_err-first.ensures.token)
 
-pub if_statement-returns-in_err-expect : goal.if_statement-returns-in_err-expect
-if_statement-returns-in_err-expect t c =
-    let w0 = start in
-    let w1 = next w0 c.in_ok-first.ensures.token in
-    let p = err_from_is_err_and c.from_residual-in_err-expect.result c.from_residual-in_err-expect.ensures.1 in
-    rw (p.1, p.2) (refused_first w1 c.in_err-expect.ensures.token)
-
 pub if_statement-returns-in_err-guard : goal.if_statement-returns-in_err-guard
 if_statement-returns-in_err-guard t c =
     let w0 = start in
     let w1 = next w0 c.in_ok-first.ensures.token in
-    let w2 = next w1 c.in_ok-expect.ensures.token in
     let p = err_from_is_err_and c.from_residual-in_err-guard.result c.from_residual-in_err-guard.ensures.1 in
-    rw (p.1, p.2) (refused_first w2 c.in_err-guard.ensures)
-
-pub if_statement-returns-in_err-expect-2 : goal.if_statement-returns-in_err-expect-2
-if_statement-returns-in_err-expect-2 t c =
-    let w0 = start in
-    let w1 = next w0 c.in_ok-first.ensures.token in
-    let w2 = next w1 c.in_ok-expect.ensures.token in
-    let w3 = next w2 c.in_ok-guard.ensures in
-    let p = err_from_is_err_and c.from_residual-in_err-expect-2.result c.from_residual-in_err-expect-2.ensures.1 in
-    rw (p.1, p.2) (refused_first w3 c.in_err-expect-2.ensures.token)
+    rw (p.1, p.2) (refused_first w1 c.in_err-guard.ensures)
 
 pub if_statement-returns-in_err-then_block : goal.if_statement-returns-in_err-then_block
 if_statement-returns-in_err-then_block t c =
     let w0 = start in
     let w1 = next w0 c.in_ok-first.ensures.token in
-    let w2 = next w1 c.in_ok-expect.ensures.token in
-    let w3 = next w2 c.in_ok-guard.ensures in
-    let w4 = next w3 c.in_ok-expect-2.ensures.token in
+    let w2 = next w1 c.in_ok-guard.ensures in
     let p = err_from_is_err_and c.from_residual-in_err-then_block.result c.from_residual-in_err-then_block.ensures.1 in
-    rw (p.1, p.2) (refused_first w4 c.in_err-then_block.ensures)
+    rw (p.1, p.2) (refused_first w2 c.in_err-then_block.ensures)
 
 pub if_statement-returns-in_err-else_block : goal.if_statement-returns-in_err-else_block
 if_statement-returns-in_err-else_block t c =
     let w0 = start in
     let w1 = next w0 c.in_ok-first.ensures.token in
-    let w2 = next w1 c.in_ok-expect.ensures.token in
-    let w3 = next w2 c.in_ok-guard.ensures in
-    let w4 = next w3 c.in_ok-expect-2.ensures.token in
-    let w5 = next w4 c.in_ok-then_block.ensures in
+    let w2 = next w1 c.in_ok-guard.ensures in
+    let w3 = next w2 c.in_ok-then_block.ensures in
     let p = err_from_is_err_and c.from_residual-in_err-else_block.result c.from_residual-in_err-else_block.ensures.1 in
-    rw (p.1, p.2) (refused_last w5 c.in_err-else_block.ensures)
+    rw (p.1, p.2) (refused_last w3 c.in_err-else_block.ensures)
 
 pub if_statement-returns : goal.if_statement-returns
 if_statement-returns t c =
     let w0 = start in
     let w1 = next w0 c.in_ok-first.ensures.token in
-    let w2 = next w1 c.in_ok-expect.ensures.token in
-    let w3 = next w2 c.in_ok-guard.ensures in
-    let w4 = next w3 c.in_ok-expect-2.ensures.token in
-    let w5 = next w4 c.in_ok-then_block.ensures in
-    last w5 c.in_ok-else_block.ensures (if_is _ _ _ _ _ _ _ _ _ _ _ (ap (λ z. z.span) c.in_ok-first.ensures.token.value) c.in_ok-guard.ensures.value c.in_ok-then_block.ensures.value c.in_ok-else_block.ensures.value)
+    let w2 = next w1 c.in_ok-guard.ensures in
+    let w3 = next w2 c.in_ok-then_block.ensures in
+    last w3 c.in_ok-else_block.ensures (if_is _ _ _ _ _ _ _ _ _ (ap (λ z. z.span) c.in_ok-first.ensures.token.value) c.in_ok-guard.ensures.value c.in_ok-then_block.ensures.value c.in_ok-else_block.ensures.value)
 
 pub else_block-returns-in_err-expect : goal.else_block-returns-in_err-expect
 else_block-returns-in_err-expect t c =

@@ -25,35 +25,14 @@ returns-in_err-label c =
     let p = err_from_is_err_and c.from_residual-in_err-label.result c.from_residual-in_err-label.ensures.1 in
     rw (p.1, p.2) (refused_first w2 c.in_err-label.ensures)
 
-pub returns-in_err-expect : goal.returns-in_err-expect
-returns-in_err-expect c =
-    let w0 = start in
-    let w1 = next w0 c.in_ok-first.ensures.token in
-    let w2 = next w1 c.in_ok-name.ensures.tree in
-    let w3 = next w2 c.in_ok-label.ensures in
-    let p = err_from_is_err_and c.from_residual-in_err-expect.result c.from_residual-in_err-expect.ensures.1 in
-    rw (p.1, p.2) (refused_first w3 c.in_err-expect.ensures.token)
-
 pub returns-in_err-value : goal.returns-in_err-value
 returns-in_err-value c =
     let w0 = start in
     let w1 = next w0 c.in_ok-first.ensures.token in
     let w2 = next w1 c.in_ok-name.ensures.tree in
     let w3 = next w2 c.in_ok-label.ensures in
-    let w4 = next w3 c.in_ok-expect.ensures.token in
     let p = err_from_is_err_and c.from_residual-in_err-value.result c.from_residual-in_err-value.ensures.1 in
-    rw (p.1, p.2) (refused_first w4 c.in_err-value.ensures)
-
-pub returns-in_err-expect-2 : goal.returns-in_err-expect-2
-returns-in_err-expect-2 c =
-    let w0 = start in
-    let w1 = next w0 c.in_ok-first.ensures.token in
-    let w2 = next w1 c.in_ok-name.ensures.tree in
-    let w3 = next w2 c.in_ok-label.ensures in
-    let w4 = next w3 c.in_ok-expect.ensures.token in
-    let w5 = next w4 c.in_ok-value.ensures in
-    let p = err_from_is_err_and c.from_residual-in_err-expect-2.result c.from_residual-in_err-expect-2.ensures.1 in
-    rw (p.1, p.2) (refused_last w5 c.in_err-expect-2.ensures.token)
+    rw (p.1, p.2) (refused_last w3 c.in_err-value.ensures)
 
 pub returns : goal.returns
 returns c =
@@ -61,6 +40,4 @@ returns c =
     let w1 = next w0 c.in_ok-first.ensures.token in
     let w2 = next w1 c.in_ok-name.ensures.tree in
     let w3 = next w2 c.in_ok-label.ensures in
-    let w4 = next w3 c.in_ok-expect.ensures.token in
-    let w5 = next w4 c.in_ok-value.ensures in
-    last w5 c.in_ok-expect-2.ensures.token (let_is _ _ _ _ _ _ _ _ _ _ _ (ap (λ z. z.span) c.in_ok-first.ensures.token.value) c.in_ok-name.ensures.tree.value c.in_ok-label.ensures.value c.in_ok-value.ensures.value)
+    last w3 c.in_ok-value.ensures (let_is _ _ _ _ _ _ _ _ _ (ap (λ z. z.span) c.in_ok-first.ensures.token.value) c.in_ok-name.ensures.tree.value c.in_ok-label.ensures.value c.in_ok-value.ensures.value)

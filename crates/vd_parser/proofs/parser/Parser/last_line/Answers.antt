@@ -1,0 +1,43 @@
+use Rattle.std.proofs.Common.{ap}
+use Rattle.std.proofs.lemmas.Result.{err_from_is_err_and}
+use Rattle.vd_parser.proofs.Steps.{last, next, refused_first, refused_last, start}
+use Rattle.vd_parser.proofs.Meanings.{last_line_is}
+use Rattle.vd_parser.proofs.parser.Parser.last_line.Goals as goal
+
+pub returns-in_err-first : goal.returns-in_err-first
+returns-in_err-first c =
+    let w0 = start in
+    let p = err_from_is_err_and c.from_residual.result c.from_residual.ensures.1 in
+    rw (p.1, p.2) (refused_first w0 c.in_err-first.ensures.token)
+
+pub returns-in_err-gives : goal.returns-in_err-gives
+returns-in_err-gives c =
+    let w0 = start in
+    let w1 = next w0 c.in_ok-first.ensures.token in
+    let p = err_from_is_err_and c.from_residual-in_err-gives.result c.from_residual-in_err-gives.ensures.1 in
+    rw (p.1, p.2) (refused_first w1 c.in_err-gives.ensures)
+
+pub returns-in_err-expect : goal.returns-in_err-expect
+returns-in_err-expect c =
+    let w0 = start in
+    let w1 = next w0 c.in_ok-first.ensures.token in
+    let w2 = next w1 c.in_ok-gives.ensures in
+    let p = err_from_is_err_and c.from_residual-in_err-expect.result c.from_residual-in_err-expect.ensures.1 in
+    rw (p.1, p.2) (refused_first w2 c.in_err-expect.ensures.token)
+
+pub returns-in_err-expect-2 : goal.returns-in_err-expect-2
+returns-in_err-expect-2 c =
+    let w0 = start in
+    let w1 = next w0 c.in_ok-first.ensures.token in
+    let w2 = next w1 c.in_ok-gives.ensures in
+    let w3 = next w2 c.in_ok-expect.ensures.token in
+    let p = err_from_is_err_and c.from_residual-in_err-expect-2.result c.from_residual-in_err-expect-2.ensures.1 in
+    rw (p.1, p.2) (refused_last w3 c.in_err-expect-2.ensures.token)
+
+pub returns : goal.returns
+returns c =
+    let w0 = start in
+    let w1 = next w0 c.in_ok-first.ensures.token in
+    let w2 = next w1 c.in_ok-gives.ensures in
+    let w3 = next w2 c.in_ok-expect.ensures.token in
+    last w3 c.in_ok-expect-2.ensures.token (last_line_is _ _ _ _ _ _ _ (ap (λ z. z.span) c.in_ok-first.ensures.token.value) c.in_ok-gives.ensures.value)
