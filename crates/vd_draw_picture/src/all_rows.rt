@@ -25,6 +25,14 @@ pub(crate) struct Run {
     pub title: Bytes,
 }
 
+/// Where a row stands: so far down, below so many rows of the drawing, and behind the line of the source that was shown last.
+#[derive(Clone, Copy)]
+struct RowAt {
+    y: u64,
+    number: u64,
+    last: usize,
+}
+
 impl Run {
     /// No rows.
     fn none(alloc: Global) -> Run
@@ -153,17 +161,15 @@ fn push_above(
     alloc: Global,
     marks: &mut Marks,
     scene: Scene,
-    y: u64,
-    number: u64,
-    last: usize,
+    at: RowAt,
     row: &Row,
 ) -> Result<(), AllocError>
-    ensures { OnOk result (marks.new ≡ marks.old ++ rows_spec.above_marks scene.entry.layout.now scene.entry.hosts.now y number last
-        row.now) }
+    ensures { OnOk result (marks.new ≡ marks.old ++ rows_spec.above_marks scene.entry.layout.now scene.entry.hosts.now
+        at.y at.number at.last row.now) }
 {
-    push_names_above(alloc, marks, scene, y, number)?;
-    let below = y.saturating_add(names_height(number));
-    push_source_line(alloc, marks, scene.layout, below, last, row)
+    push_names_above(alloc, marks, scene, at.y, at.number)?;
+    let below = at.y.saturating_add(names_height(at.number));
+    push_source_line(alloc, marks, scene.layout, below, at.last, row)
 }
 
 /// Adds a row with those before it that are drawn with it.
@@ -171,9 +177,7 @@ fn push_group(
     alloc: Global,
     marks: &mut Marks,
     scene: Scene,
-    y: u64,
-    number: u64,
-    last: usize,
+    at: RowAt,
     run: Run,
     row: &Row,
     rest: &[Row],
@@ -181,18 +185,18 @@ fn push_group(
     requires few { length scene.hosts.now ≤ most_hosts }
     requires greatest { 1 ≤ scene.layout.now.greatest }
     ensures { OnOk result (marks.new ≡ marks.old ++ rows_spec.group_marks scene.entry.layout.now scene.entry.hosts.now
-        scene.entry.slots.now scene.entry.labels.now y number last run row.now rest.now) }
+        scene.entry.slots.now scene.entry.labels.now at.y at.number at.last run row.now rest.now) }
 {
-    let shown = line_behind(last, &row.line);
-    let inside = height_inside(row.depth, number.saturating_add(1), shown, rest);
+    let shown = line_behind(at.last, &row.line);
+    let inside = height_inside(row.depth, at.number.saturating_add(1), shown, rest);
     let Run { count, cost, title } = run;
-    let top = y.saturating_add(height_above(number, last, row));
+    let top = at.y.saturating_add(height_above(at.number, at.last, row));
     marks.push(Mark::Group(top, title))?;
     push_row(
         alloc,
         marks,
         scene,
-        number,
+        at.number,
         inside,
         count.saturating_sub(1),
         cost,
@@ -201,35 +205,12 @@ fn push_group(
     marks.push(Mark::End)
 }
 
-/// Adds a row with those before it that are drawn with it, and what stands above it.
-fn push_run(
-    alloc: Global,
-    marks: &mut Marks,
-    scene: Scene,
-    y: u64,
-    number: u64,
-    last: usize,
-    run: Run,
-    row: &Row,
-    rest: &[Row],
-) -> Result<(), AllocError>
-    requires few { length scene.hosts.now ≤ most_hosts }
-    requires greatest { 1 ≤ scene.layout.now.greatest }
-    ensures { OnOk result (marks.new ≡ marks.old ++ rows_spec.run_marks scene.entry.layout.now scene.entry.hosts.now
-        scene.entry.slots.now scene.entry.labels.now y number last run row.now rest.now) }
-{
-    push_above(alloc, marks, scene, y, number, last, row)?;
-    push_group(alloc, marks, scene, y, number, last, run, row, rest)
-}
-
 /// Adds the marks of a row, unless it is drawn with the one behind it; and gives the rows that wait then.
 fn push_step(
     alloc: Global,
     marks: &mut Marks,
     scene: Scene,
-    y: u64,
-    number: u64,
-    last: usize,
+    at: RowAt,
     run: Run,
     row: &Row,
     rest: &[Row],
@@ -237,14 +218,15 @@ fn push_step(
     requires few { length scene.hosts.now ≤ most_hosts }
     requires greatest { 1 ≤ scene.layout.now.greatest }
     ensures marks { OnOk result (marks.new ≡ marks.old ++ rows_spec.step_marks scene.entry.layout.now scene.entry.hosts.now
-        scene.entry.slots.now scene.entry.labels.now y number last run row.now rest.now) }
+        scene.entry.slots.now scene.entry.labels.now at.y at.number at.last run row.now rest.now) }
     ensures run { IfOk result (λ next. next ≡ rows_spec.next_run scene.entry.layout.now scene.entry.hosts.now scene.entry.slots.now
         scene.entry.labels.now run row.now rest.now) }
 {
     if goes_on(row, rest) {
         return Ok(run);
     }
-    push_run(alloc, marks, scene, y, number, last, run, row, rest)?;
+    push_above(alloc, marks, scene, at, row)?;
+    push_group(alloc, marks, scene, at, run, row, rest)?;
     Ok(Run::none(alloc))
 }
 
@@ -269,7 +251,8 @@ pub(crate) fn push_rows(
         let row = &rows[place];
         let rest = &rows[place + 1..];
         add_row(alloc, &mut run, scene, row)?;
-        run = push_step(alloc, marks, scene, y, number, last, run, row, rest)?;
+        let at = RowAt { y, number, last };
+        run = push_step(alloc, marks, scene, at, run, row, rest)?;
         y = y.saturating_add(whole_height(number, last, row, rest));
         last = next_last(last, row, rest);
         number = next_number(number, row, rest);
