@@ -1,5 +1,4 @@
 pub mod Front
-mod Actions
 mod Sound
 mod Leads
 mod Texts

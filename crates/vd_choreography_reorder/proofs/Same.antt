@@ -10,11 +10,10 @@ use Rattle.vd_execution.specs.World.{Tape}
 use Rattle.vd_execution.specs.Joint.{Joint, Host, Hosts, acted, supplied, said_to, has_heard, IsTidy, joint}
 use Rattle.vd_execution.proofs.Front.{same_or_not, put_same, put_other}
 use Rattle.vd_reorder.specs.ReorderLawsTesting.{is_simple, reads, writes, meet}
-use Rattle.vd_reorder.proofs.Front.{words_stay}
+use Rattle.vd_reorder.proofs.Front.{words_stay, apart, kept_words}
 use Rattle.vd_reorder.specs.Turning.{Turn, Does, Tells, gone_by, Look, look, AreAlike, MayTurn, IsTurned, then_goes, with_joint}
 use Rattle.vd_choreography_reorder.specs.Testing.{Opened, may_turn, is_beside, are_beside}
 use Rattle.vd_choreography_reorder.specs.Order.{IsCarefullyTurned, CarefulTurns, IsCarefully, without_empty, IsBroughtForward}
-use Rattle.vd_choreography_reorder.proofs.Actions.{apart, kept_words}
 use Rattle.vd_choreography_reorder.proofs.Empty.{same_run}
 use Rattle.vd_choreography_reorder.proofs.Sound.{both, then_not}
 use Rattle.vd_choreography_reorder.specs.Packets.{count_of, SendsTheSame}

@@ -6,10 +6,9 @@ use Rattle.vd_execution.specs.declared.instructions.Action.{Action}
 use Rattle.vd_reorder.specs.ReorderLawsTesting.{is_simple, reads, writes, needs, meet, both_may}
 use Rattle.vd_reorder.specs.Turning.{Turn, Does, Tells, MayTurn}
 use Rattle.vd_reorder.specs.ChoreographyCommutingNeighbours.{IsBeside, AreBeside}
-use Rattle.vd_reorder.proofs.Front.{act_beside_message, acts_apart, message_beside_act, messages_apart, acts_at_one}
+use Rattle.vd_reorder.proofs.Front.{act_beside_message, acts_apart, message_beside_act, messages_apart, acts_at_one, apart, plain, past_registers, kept_words, DoNotNeed, do_not_need}
 use Rattle.vd_choreography_reorder.specs.Testing.{is_beside, are_beside, may_turn}
 use Rattle.vd_choreography_reorder.specs.Testing as testing
-use Rattle.vd_choreography_reorder.proofs.Actions.{apart, plain, past_registers, kept_words, DoNotNeed, do_not_need}
 
 pub both : (a b : Bool) → (a && b) ≡ true → (a ≡ true) × (b ≡ true)
 both true b e = (refl, e)

@@ -27,7 +27,7 @@ done_took l m (Said p words) q = omega arith
 done_took l m (Heard p) q = put_more l.taken p q
 done_took l m (Printed x) q = omega arith
 
-took : (w : World) (g p : ℕ) (xs : List ℕ) (h : ℕ) → (w p).taken h ≤ (put w g (moved_on (w g) xs) p).taken h
+pub took : (w : World) (g p : ℕ) (xs : List ℕ) (h : ℕ) → (w p).taken h ≤ (put w g (moved_on (w g) xs) p).taken h
 took w g p xs h =
     elim (same_or_not p g) [
       | inl same ↦

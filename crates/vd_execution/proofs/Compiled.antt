@@ -10,16 +10,18 @@ use Rattle.vd_execution.specs.Claims.{RunsWell, IsOnTheWay, Suffices, last_of, o
 use Rattle.vd_execution.proofs.Confluence.{Through, through_run}
 use Rattle.vd_execution.proofs.Diamond.{stepped, steps_to}
 use Rattle.vd_execution.proofs.Reached.{GrowsInto, grows_along, faultless, goes_on, twin, twin_steps, short_at, remaining, Enough, never_short, ended_whole, stuck_ended}
-use Rattle.vd_execution.proofs.Resting.{To, same_resting, from}
-use Rattle.vd_execution.proofs.Order.{order}
+use Rattle.vd_execution.proofs.Resting.{same_resting}
+use Rattle.vd_execution.proofs.Calm.{same_start, calm_steps}
+use Rattle.vd_execution.proofs.Order.{calmly_in_order}
 use Rattle.vd_execution.proofs.Reading.{ends_there}
 
-all_through : (s : Supply) (j : Joint) → RunsWell s j → To (followed_by_zeros s) (order_of s j) (started j) (at_end (last_of s j))
+all_through : (s : Supply) (j : Joint) → RunsWell s j → Through (step (twin s)) (order_of s j) (started j) (at_end (last_of s j))
 all_through s j well =
     let t : Tape = followed_by_zeros s in
-    from t (order_of s j) (started j) _ (at_end (last_of s j))
+    calm_steps t (order_of s j) (started j) (at_end (last_of s j))
+    (same_start t (order_of s j) (started j) _ (at_end (last_of s j))
     (same_resting (λ h. code_of h j) (λ h. followed_by (code_of h j) Finished) fresh fresh (λ h. sym (ends_there (code_of h j))) (λ h. refl))
-    (order t j fresh (λ h. Finished) well.tidy well.smooth)
+    (calmly_in_order t j fresh (λ h. Finished) well.tidy well.smooth))
 
 -- program order, on endless lists
 record InOrder (s : Supply) (j : Joint) : Type 0 where

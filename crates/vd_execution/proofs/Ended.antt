@@ -27,7 +27,7 @@ stays_by s h l over g w u e is =
       | inr other ↦ ap (λ (x : World). x h) a.made ∙ put_other w g (moved_on (w g) a.words) h other ∙ is
     ]
 
-stays : (s : Supply) (n : ℕ) (w v : World) (h : ℕ) → Steps (step s) n w v → (w h).state.pending ≡ Finished → v h ≡ w h
+pub stays : (s : Supply) (n : ℕ) (w v : World) (h : ℕ) → Steps (step s) n w v → (w h).state.pending ≡ Finished → v h ≡ w h
 stays s n w v h t over = steps_keep (step s) (λ (x : World). x h ≡ w h) (stays_by s h (w h) over) n w v t refl
 
 pub ended_whole : EndedHostsAreWhole

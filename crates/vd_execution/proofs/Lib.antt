@@ -10,6 +10,7 @@ mod Diamond
 mod Reached
 mod Parts
 mod Resting
+mod Calm
 mod Order
 mod Compiled
 mod Reading
@@ -24,5 +25,4 @@ mod Following
 mod Ended
 mod Commuting
 mod Narrow
-mod ExecutionBuffersOrder
 mod Enough

@@ -1,5 +1,5 @@
 -- Worlds in which every packet that was sent is taken, and steps from one to the next.
-use Rattle.std.proofs.Common.{◌≡◌, ◌≢◌, ℕ, suc, nat_eq, nat_lt, if◌then◌else◌, Bool, true, false, List, [], ◌∷◌, ◌++◌, Option, Some, None, ◌⊎◌, inl, inr, refl, sym, ap, ap₂, subst, subst₂, ◌∙◌, length}
+use Rattle.std.proofs.Common.{◌≡◌, ◌≢◌, ℕ, suc, nat_eq, nat_lt, if◌then◌else◌, Bool, true, false, List, [], ◌∷◌, ◌++◌, Option, Some, None, ◌⊎◌, inl, inr, refl, sym, ap, ap₂, ◌∙◌, length}
 use Rattle.std.specs.Prelude.{slice_get}
 use Rattle.std.proofs.lemmas.Bool.{eq-eqb}
 use mathlib.Core.Path.{fun_ext}
@@ -10,10 +10,9 @@ use Rattle.vd_execution.specs.Registers.{Registers, put}
 use Rattle.vd_execution.specs.Code.{Code, Then, Send, Recv, Choose, Repeat, followed_by}
 use Rattle.vd_execution.specs.Step.{Source, State, Cursors, Given, Nothing, Unequal, answer, of_length, need_of_action, word_printed, deed_of_print, next, words_in}
 use Rattle.vd_execution.specs.World.{Local, World, Tape, endless, given, done, with_answer, with_host, step}
-use Rattle.vd_execution.specs.Joint.{Part, hosts_of, TakesPart, Apart, Host, Hosts, Agrees, supplied, acted, with_print, said_to, has_heard, after_msg, resting}
+use Rattle.vd_execution.specs.Joint.{Host, Hosts, Agrees, supplied, acted, with_print, said_to, has_heard, after_msg, resting}
 use Rattle.vd_execution.proofs.Puts.{same_or_not, put_same, put_other}
-use Rattle.vd_execution.proofs.Confluence.{Through, through_all}
-use Rattle.vd_execution.proofs.Parts.{Every}
+use Rattle.vd_execution.proofs.Confluence.{Through}
 
 -- a host of the joint run with code before it
 abbrev pub local_of : Code → Host → (ℕ → ℕ) → Local
@@ -28,7 +27,7 @@ abbrev pub all_taken : Hosts → ℕ → ℕ → ℕ
 all_taken w h p = length ((w p).sent h)
 
 -- one host of a resting world goes on, and sends nothing
-sent_put : (w : Hosts) (h : ℕ) (s : Host) → s.sent ≡ (w h).sent → (p : ℕ) → (put w h s p).sent ≡ (w p).sent
+pub sent_put : (w : Hosts) (h : ℕ) (s : Host) → s.sent ≡ (w h).sent → (p : ℕ) → (put w h s p).sent ≡ (w p).sent
 sent_put w h s e p =
     elim (same_or_not p h) [
       | inl same ↦ ap (λ q. (put w h s q).sent) same ∙ ap (λ x. x.sent) (put_same w h s) ∙ e ∙ ap (λ q. (w q).sent) (sym same)
@@ -57,17 +56,6 @@ resting_put code w h c s e = fun_ext (λ j. at j (same_or_not j h))
 
 pub same_resting : (code kode : ℕ → Code) (w v : Hosts) → ((h : ℕ) → code h ≡ kode h) → ((h : ℕ) → w h ≡ v h) → resting code w ≡ resting kode v
 same_resting code kode w v e i = ap₂ (λ (x : ℕ → Code) (y : Hosts). resting x y) (fun_ext e) (fun_ext i)
-
--- ---- steps, one after another
-
-abbrev pub To : Tape → List ℕ → World → World → Type 0
-To t hs a b = Through (step (endless t)) hs a b
-
-pub on : (t : Tape) (hs gs : List ℕ) (a b c : World) → To t hs a b → To t gs b c → To t (hs ++ gs) a c
-on t hs gs a b c p q = through_all (step (endless t)) hs gs a b c p q
-
-pub from : (t : Tape) (hs : List ℕ) (a b c : World) → a ≡ b → To t hs b c → To t hs a c
-from t hs a b c e p = subst (λ x. To t hs x c) (sym e) p
 
 -- ---- a host that acts by itself
 
@@ -133,43 +121,6 @@ over_quietly t r i count body rest s e = record {
       ∙ ap (λ (x : Bool). Some (put v h (local_of (if x then followed_by body (Repeat r (suc i) count body rest) else rest) (record s { registers = if x then put s.registers r i else s.registers }) taken))) e;
 }
 
-abbrev pub AllQuietly : Tape → List Part → (ℕ → Code) → Hosts → (ℕ → Code) → Hosts → Type 0
-AllQuietly t ps code w kode v = Every ps (λ p. Quietly t (code p.0) (w p.0) (kode p.0) (v p.0))
-
-all_kept : (t : Tape) (ps : List Part) (h : ℕ) (code kode : ℕ → Code) (w v : Hosts) → (TakesPart ps h → ⊥) → AllQuietly t ps code w kode v
-    → AllQuietly t ps (put code h (kode h)) (put w h (v h)) kode v
-all_kept t [] h code kode w v n a = tt
-all_kept t (p ∷ ps) h code kode w v n a =
-    let other : p.0 ≢ h = λ e. n (inl (sym e)) in
-    let P : Code → Host → Type 0 = λ c s. Quietly t c s (kode p.0) (v p.0) in
-    (subst₂ P (sym (put_other code h (kode h) p.0 other)) (sym (put_other w h (v h) p.0 other)) a.0, all_kept t ps h code kode w v (λ x. n (inr x)) a.1)
-
-neither : (ps : List Part) (q h : ℕ) → h ≢ q → (TakesPart ps h → ⊥) → (h ≡ q) ⊎ TakesPart ps h → ⊥
-neither ps q h d n (inl e) = d e
-neither ps q h d n (inr t) = n t
-
-left_alone : {A : Type 0} (ps : List Part) (f g : ℕ → A) (q : ℕ) → ((h : ℕ) → ((h ≡ q) ⊎ TakesPart ps h → ⊥) → f h ≡ g h) → (h : ℕ) → (TakesPart ps h → ⊥) → put f q (g q) h ≡ g h
-left_alone ps f g q e h n =
-    elim (same_or_not h q) [
-      | inl same ↦ ap (put f q (g q)) same ∙ put_same f q (g q) ∙ ap g (sym same)
-      | inr d ↦ put_other f q (g q) h d ∙ e h (neither ps q h d n)
-    ]
-
--- each host that takes part steps once
-pub round : (t : Tape) (ps : List Part) (code kode : ℕ → Code) (w v : Hosts) → Apart ps → AllQuietly t ps code w kode v
-    → ((h : ℕ) → (TakesPart ps h → ⊥) → code h ≡ kode h) → ((h : ℕ) → (TakesPart ps h → ⊥) → w h ≡ v h) → ((h : ℕ) → (v h).sent ≡ (w h).sent)
-    → To t (hosts_of ps) (resting code w) (resting kode v)
-round t [] code kode w v apart a c s n = same_resting code kode w v (λ h. c h (λ x. x)) (λ h. s h (λ x. x))
-round t (p ∷ ps) code kode w v apart a c s n =
-    let k1 : ℕ → Code = put code p.0 (kode p.0) in
-    let w1 : Hosts = put w p.0 (v p.0) in
-    let kept : (h : ℕ) → (v h).sent ≡ (w1 h).sent = λ h. n h ∙ sym (sent_put w p.0 (v p.0) (n p.0) h) in (
-      put (resting code w) p.0 (local_of (kode p.0) (v p.0) (all_taken w p.0)),
-      a.0.goes p.0 (resting code w) (all_taken w p.0) refl,
-      from t (hosts_of ps) _ _ _ (resting_put code w p.0 (kode p.0) (v p.0) (n p.0))
-          (round t ps k1 kode w1 v apart.1 (all_kept t ps p.0 code kode w v apart.0 a.1) (left_alone ps code kode p.0 c) (left_alone ps w v p.0 s) kept),
-    )
-
 -- ---- a message, from its send to its receipt
 
 get_last : {X : Type 0} (xs : List X) (x : X) → slice_get (xs ++ x ∷ []) (length xs) ≡ Some x
@@ -187,10 +138,10 @@ length_words f (r ∷ rs) = ap suc (length_words f rs)
 fits : (n : ℕ) (xs : List ℕ) → length xs ≡ n → of_length n (Some xs) ≡ Some xs
 fits n xs e = ap (λ (b : Bool). if b then Some xs else None) (eq-eqb (length xs) n e)
 
-pub message : (t : Tape) (a b : ℕ) (xs ys : List Reg) (code kode : ℕ → Code) (w : Hosts) → a ≢ b → length xs ≡ length ys
+pub message_steps : (t : Tape) (a b : ℕ) (xs ys : List Reg) (code kode : ℕ → Code) (w : Hosts) → a ≢ b → length xs ≡ length ys
     → code a ≡ Send b xs (kode a) → code b ≡ Recv a ys (kode b) → ((h : ℕ) → h ≢ a → h ≢ b → code h ≡ kode h)
-    → To t (a ∷ b ∷ []) (resting code w) (resting kode (after_msg a xs b ys w))
-message t a b xs ys code kode w ne same_length at_a at_b others =
+    → Through (step (endless t)) (a ∷ b ∷ []) (resting code w) (resting kode (after_msg a xs b ys w))
+message_steps t a b xs ys code kode w ne same_length at_a at_b others =
     (w1, first, (w2, second, fun_ext (λ j. ends j (same_or_not j b) (same_or_not j a))))
   where
     back : b ≢ a

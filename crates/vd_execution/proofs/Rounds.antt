@@ -33,7 +33,7 @@ choice_falls : (z : Bool) (a b c : Code) → weight (followed_by (cond z b a) c)
 choice_falls true a b c = let h = weight_both b c in omega arith
 choice_falls false a b c = let h = weight_both a c in omega arith
 
-weight_falls : (f : Registers) (c : Code) → (need_of f c ≡ Ended → ⊥) → weight (pending_after f c) < weight c
+pub weight_falls : (f : Registers) (c : Code) → (need_of f c ≡ Ended → ⊥) → weight (pending_after f c) < weight c
 weight_falls f Finished h = absurd (h refl)
 weight_falls f (Then a c) h = omega arith
 weight_falls f (Send p rs c) h = omega arith

@@ -6,7 +6,7 @@ use Rattle.vd_execution.specs.Step.{deed}
 use Rattle.vd_execution.specs.Schedule.{run_by, IsStuckBy}
 use Rattle.vd_execution.specs.World.{Local, World, Tape, step, endless}
 use Rattle.vd_execution.specs.Joint.{Joint, fresh, joint, started, at_end, code_of, program_order}
-use Rattle.vd_execution.proofs.Front.{through_run, one_end, ended_stuck, ends_there, same_resting}
+use Rattle.vd_execution.proofs.Front.{through_run, one_end, ended_stuck, ends_there, same_resting, Calmly, same_start, calmly_in_order}
 use Rattle.vd_reorder.specs.Hastening.{Piece, at, MayPass}
 use Rattle.vd_reorder.specs.ReorderLawsPassing.{IsSoundTest, hastened}
 use Rattle.vd_reorder.specs.ReorderLawsTesting.{may}
@@ -15,7 +15,6 @@ use Rattle.vd_reorder.proofs.ReorderLawsTesting.{sound}
 use Rattle.vd_execution.specs.Room.{has_room, narrow}
 use Rattle.vd_execution.proofs.Front.{commute}
 use Rattle.vd_reorder.specs.Window.{begun, RoomForTheWindowIsEnough, RoomForCarefulHostsIsEnough}
-use Rattle.vd_reorder.proofs.Calm.{To, from, order}
 use Rattle.vd_reorder.proofs.Passed.{ahead, hastened_passed, no_end, end_is_end}
 use Rattle.vd_reorder.proofs.Early.{Items, eagerly}
 use Rattle.vd_reorder.proofs.Keeping.{Hasty, AllHasty, along}
@@ -52,10 +51,10 @@ pub enough : RoomForTheWindowIsEnough
 enough room t j test window tidy smooth sound within b stuck =
     let hs : List ℕ = program_order t j fresh in
     let last : World = at_end (joint t j fresh) in
-    let way : To t hs (started j) last =
-    from t hs (started j) _ last
+    let way : Calmly t hs (started j) last =
+    same_start t hs (started j) _ last
     (same_resting (λ h. code_of h j) (λ h. followed_by (code_of h j) Finished) fresh fresh (λ h. sym (ends_there (code_of h j))) (λ h. refl))
-    (order t j fresh (λ h. Finished) tidy smooth) in
+    (calmly_in_order t j fresh (λ h. Finished) tidy smooth) in
     let r = along room t hs (started j) last (begun j test window) (hasty_at_first room t j test window sound within) way in
     let there : r.world ≡ last = fun_ext (λ h. ended_alike t (suc room) h (last h) (r.world h) refl (r.all_hasty h)) in
     let ends : run_by (narrow (suc room) (endless t)) r.hosts (begun j test window) ≡ last = (through_run (narrow (suc room) (endless t)) r.hosts (begun j test window) r.world r.through).0 ∙ there in

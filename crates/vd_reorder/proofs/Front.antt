@@ -3,8 +3,7 @@ pub use Rattle.vd_reorder.proofs.InRows.{has_append, meet_turned}
 pub use Rattle.vd_reorder.proofs.Texts.{hastened_is}
 pub use Rattle.vd_reorder.proofs.Hosts.{hastened_never_short}
 pub use Rattle.vd_reorder.proofs.Instances.{words_stay}
-pub use Rattle.vd_reorder.proofs.RowsOfRegisters.{changed, changed_row, got, hashed, zeroed_row}
-pub use Rattle.vd_reorder.proofs.ReorderLawsTesting.{sound}
+pub use Rattle.vd_reorder.proofs.ReorderLawsTesting.{sound, DoNotNeed, apart, do_not_need, kept_words, plain, past_registers}
 pub use Rattle.vd_reorder.proofs.Standing.{ended_whole, on_the_way, reached_from}
 pub use Rattle.vd_reorder.proofs.Falling.{exchanged_weighs}
 pub use Rattle.vd_reorder.proofs.Alike.{begun_alike, chosen_alike, gone_alike, heard_look, joint_alike, smooth_alike}

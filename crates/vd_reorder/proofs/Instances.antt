@@ -33,11 +33,11 @@ has_words items c (Packet p n) i = absurd i
 has_words items c (Unequal x y) i = absurd i
 has_words items c Ended i = absurd i
 
-at_other : (c : Cursors) (s r : Source) → same_source r s ≡ false → one_further c s r ≡ c r
+pub at_other : (c : Cursors) (s r : Source) → same_source r s ≡ false → one_further c s r ≡ c r
 at_other c s r e = ap (λ b. if b then suc (c r) else c r) e
 
 -- what the one takes is not what the other gets
-others_words : (items : Source → ℕ → List ℕ) (c : Cursors) (m n : Need) → ListsDiffer m n → supplied items (advanced c m) n ≡ supplied items c n
+pub others_words : (items : Source → ℕ → List ℕ) (c : Cursors) (m n : Need) → ListsDiffer m n → supplied items (advanced c m) n ≡ supplied items c n
 others_words items c Nothing n d = refl
 others_words items c (Item s) Nothing d = refl
 others_words items c (Item s) (Item r) d = ap (items r) (at_other c s r d.1)
@@ -65,7 +65,7 @@ one_then_other true false n = refl
 one_then_other false true n = refl
 one_then_other false false n = refl
 
-both_advanced : (c : Cursors) (m n : Need) → advanced (advanced c m) n ≡ advanced (advanced c n) m
+pub both_advanced : (c : Cursors) (m n : Need) → advanced (advanced c m) n ≡ advanced (advanced c n) m
 both_advanced c Nothing n = refl
 both_advanced c (Item s) Nothing = refl
 both_advanced c (Item s) (Item r) = fun_ext (λ t. one_then_other (same_source t s) (same_source t r) (c t))

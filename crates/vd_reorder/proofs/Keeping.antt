@@ -8,19 +8,18 @@ use Rattle.vd_execution.specs.declared.instructions.Action.TheVariants as action
 use Rattle.vd_execution.specs.Registers.{Registers, put}
 use Rattle.vd_execution.specs.Text.{register}
 use Rattle.vd_execution.specs.Code.{Code, Finished, Choose, Repeat, followed_by}
-use Rattle.vd_execution.specs.Step.{State, Nothing, Deed, Quiet, Said, Heard, Printed, answer, need, need_of, next, deed, deed_of, deed_of_print, word_printed}
+use Rattle.vd_execution.specs.Step.{Nothing, Quiet, answer, need, need_of, next, deed, deed_of, deed_of_print, word_printed}
 use Rattle.vd_execution.specs.World.{Local, World, Supply, Tape, given, done, moved_on, queue, step, endless}
 use Rattle.vd_execution.specs.Joint.{supplied}
-use Rattle.vd_execution.proofs.Front.{Through, through_all, Below, answer_more, Stepped, stepped, steps_to}
+use Rattle.vd_execution.proofs.Front.{Through, through_all, Below, answer_more, Stepped, stepped, steps_to, Calm, Calmly, took}
 use Rattle.vd_execution.proofs.Front.{same_or_not, put_same, put_other, put_twice, put_itself}
-use Rattle.vd_reorder.specs.Hastening.{Piece, Acts, Sends, Awaits, before, at, Stretch, One, Branch, Loop, without_packets}
+use Rattle.vd_reorder.specs.Hastening.{Piece, Acts, Sends, Awaits, before, at, One, Branch, Loop, without_packets}
 use Rattle.vd_reorder.proofs.Turned.{piece_moves, piece_leaves}
 use Rattle.vd_reorder.proofs.Stretches.{turns, is_over}
 use Rattle.vd_execution.specs.Room.{has_room, narrow}
-use Rattle.vd_reorder.proofs.Calm.{Calm, To}
 use Rattle.vd_reorder.proofs.Passed.{ahead, packet, sends, AllPass, Sunk, Passed, Nowhere, Behind, InBranch, InLoop, first_same, no_branch, no_loop}
 use Rattle.vd_reorder.proofs.Beside.{AllPassAll, beside}
-use Rattle.vd_reorder.proofs.Early.{Items, eager, eagerly, IsFree, AllFree, answered, all_free, free_behind, free_both, ahead_append, eagerly_append, sends_append, at_itself, eager_stands, eagerly_leaves, eagerly_moves, guard_stays, past, still_gets, all_take, sent_by_one, sent_by_all, eagerly_sent}
+use Rattle.vd_reorder.proofs.Early.{eager, eagerly, IsFree, AllFree, answered, all_free, free_behind, free_both, ahead_append, eagerly_append, sends_append, at_itself, eager_stands, eagerly_leaves, eagerly_moves, guard_stays, past, still_gets, all_take, sent_by_one, sent_by_all, eagerly_sent}
 
 -- a host with a hastened code has already done some pieces that stand before what it would do next
 pub record Hasty (t : Tape) (n h : ℕ) (l k : Local) : Type 0 where
@@ -37,34 +36,6 @@ abbrev pub AllHasty : Tape → ℕ → World → World → Type 0
 AllHasty t n v w = (h : ℕ) → Hasty t n h (v h) (w h)
 
 -- ---- what was taken only grows
-
-put_more : (f : ℕ → ℕ) (p q : ℕ) → f q ≤ put f p (suc (f p)) q
-put_more f p q =
-    elim (same_or_not q p) [
-      | inl same ↦
-          let e : put f p (suc (f p)) q ≡ suc (f q) = ap (put f p (suc (f p))) same ∙ put_same f p (suc (f p)) ∙ ap (λ i. suc (f i)) (sym same) in
-          omega (arith, e)
-      | inr other ↦ let e : put f p (suc (f p)) q ≡ f q = put_other f p (suc (f p)) q other in omega (arith, e)
-    ]
-
-done_took : (l : Local) (m : State) (d : Deed) (q : ℕ) → l.taken q ≤ (done l m d).taken q
-done_took l m Quiet q = omega arith
-done_took l m (Said p words) q = omega arith
-done_took l m (Heard p) q = put_more l.taken p q
-done_took l m (Printed x) q = omega arith
-
-took : (w : World) (g p : ℕ) (xs : List ℕ) (h : ℕ) → (w p).taken h ≤ (put w g (moved_on (w g) xs) p).taken h
-took w g p xs h =
-    elim (same_or_not p g) [
-      | inl same ↦
-          let e : (put w g (moved_on (w g) xs) p).taken h ≡ (moved_on (w g) xs).taken h = ap (λ i. (put w g (moved_on (w g) xs) i).taken h) same ∙ ap (λ (l : Local). l.taken h) (put_same w g (moved_on (w g) xs)) in
-          let f : (w p).taken h ≡ (w g).taken h = ap (λ i. (w i).taken h) same in
-          let m = done_took (w g) (next (w g).state xs) (deed (w g).state) h in
-          omega (arith, e, f, m)
-      | inr other ↦
-          let e : (put w g (moved_on (w g) xs) p).taken h ≡ (w p).taken h = ap (λ (l : Local). l.taken h) (put_other w g (moved_on (w g) xs) p other) in
-          omega (arith, e)
-    ]
 
 -- ---- a host goes ahead
 
@@ -550,7 +521,7 @@ pub record Ends (room : ℕ) (t : Tape) (w u : World) : Type 0 where
   pub through : Through (narrow (suc room) (endless t)) hosts w world
   pub all_hasty : AllHasty t (suc room) u world
 
-pub along : (room : ℕ) (t : Tape) (hs : List ℕ) (v u w : World) → AllHasty t (suc room) v w → To t hs v u → Ends room t w u
+pub along : (room : ℕ) (t : Tape) (hs : List ℕ) (v u w : World) → AllHasty t (suc room) v w → Calmly t hs v u → Ends room t w u
 along room t [] v u w all p = record { hosts = []; world = w; through = refl; all_hasty = subst (λ x. AllHasty t (suc room) x w) p all }
 along room t (h ∷ hs) v u w all p =
     let f = follow room t v w all h p.0 p.1 p.2 in

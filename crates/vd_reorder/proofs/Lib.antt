@@ -23,7 +23,6 @@ mod Later
 mod HeldUp
 mod Maximal
 mod Asking
-mod Calm
 mod Passed
 mod Early
 mod Beside

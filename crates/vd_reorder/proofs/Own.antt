@@ -1,31 +1,16 @@
 -- Two acts of one host.
-use Rattle.std.proofs.Common.{◌≡◌, ℕ, suc, Bool, true, false, if◌then◌else◌, List, Option, refl, sym, ap, ap₂, ◌∙◌}
-use mathlib.Core.Path.{fun_ext}
+use Rattle.std.proofs.Common.{◌≡◌, ℕ, List, refl, sym, ap, ap₂, ◌∙◌}
 use Rattle.vd_execution.specs.declared.instructions.Action.{Action}
 use Rattle.vd_execution.specs.Registers.{Registers, written}
-use Rattle.vd_execution.specs.Step.{Source, Cursors, Need, Nothing, Item, Packet, Unequal, Ended, same_source, advanced, one_further, need_of_action, word_printed}
+use Rattle.vd_execution.specs.Step.{Source, Cursors, Need, Nothing, Item, Packet, Unequal, Ended, advanced, word_printed}
 use Rattle.vd_execution.specs.Joint.{supplied, with_print}
 use Rattle.vd_execution.proofs.Front.{put_same}
 use Rattle.vd_reorder.specs.Neighbours.{IsPlain, ListsDiffer}
 use Rattle.vd_reorder.specs.Turning.{Does, gone_by}
 use Rattle.vd_reorder.specs.ChoreographyCommutingNeighbours.{ActsAtOne}
 use Rattle.vd_reorder.proofs.Alike.{act_look}
-use Rattle.vd_reorder.proofs.Apart.{Looks, looked, new_look, LooksTurn, alike_by, near_turn, agrees}
-
--- what the one takes is not what the other gets
-at_other : (c : Cursors) (s r : Source) → same_source r s ≡ false → one_further c s r ≡ c r
-at_other c s r e = ap (λ b. if b then suc (c r) else c r) e
-
-others_words : (items : Source → ℕ → List ℕ) (c : Cursors) (m n : Need) → ListsDiffer m n → supplied items (advanced c m) n ≡ supplied items c n
-others_words items c Nothing n d = refl
-others_words items c (Item s) Nothing d = refl
-others_words items c (Item s) (Item r) d = ap (items r) (at_other c s r d.1)
-others_words items c (Item s) (Packet p k) d = refl
-others_words items c (Item s) (Unequal x y) d = refl
-others_words items c (Item s) Ended d = refl
-others_words items c (Packet p k) n d = refl
-others_words items c (Unequal x y) n d = refl
-others_words items c Ended n d = refl
+use Rattle.vd_reorder.proofs.Apart.{looked, new_look, alike_by, near_turn, agrees}
+use Rattle.vd_reorder.proofs.Instances.{at_other, others_words, both_advanced}
 
 ones_words : (items : Source → ℕ → List ℕ) (c : Cursors) (m n : Need) → ListsDiffer m n → supplied items (advanced c n) m ≡ supplied items c m
 ones_words items c Nothing n d = refl
@@ -37,23 +22,6 @@ ones_words items c (Item s) Ended d = refl
 ones_words items c (Packet p k) n d = refl
 ones_words items c (Unequal x y) n d = refl
 ones_words items c Ended n d = refl
-
-one_then_other : (a b : Bool) (n : ℕ) → (if b then suc (if a then suc n else n) else (if a then suc n else n)) ≡ (if a then suc (if b then suc n else n) else (if b then suc n else n))
-one_then_other true true n = refl
-one_then_other true false n = refl
-one_then_other false true n = refl
-one_then_other false false n = refl
-
-both_advanced : (c : Cursors) (m n : Need) → advanced (advanced c m) n ≡ advanced (advanced c n) m
-both_advanced c Nothing n = refl
-both_advanced c (Item s) Nothing = refl
-both_advanced c (Item s) (Item r) = fun_ext (λ t. one_then_other (same_source t s) (same_source t r) (c t))
-both_advanced c (Item s) (Packet p k) = refl
-both_advanced c (Item s) (Unequal x y) = refl
-both_advanced c (Item s) Ended = refl
-both_advanced c (Packet p k) n = refl
-both_advanced c (Unequal x y) n = refl
-both_advanced c Ended n = refl
 
 -- a plain act, as it is seen
 plain_look : (items : Source → ℕ → List ℕ) (a : Action) (n : Need) → IsPlain a n → (f : Registers) (c : Cursors) (p : List ℕ)

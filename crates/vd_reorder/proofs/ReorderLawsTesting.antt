@@ -33,7 +33,7 @@ meet_not : (r : Reg) (rs qs : List Reg) (b : Bool) → has r qs ≡ b → (if b 
 meet_not r rs qs true e f = absurd cc
 meet_not r rs qs false e f = (e, f)
 
-apart : (rs qs : List Reg) → meet rs qs ≡ false → AreApart rs qs
+pub apart : (rs qs : List Reg) → meet rs qs ≡ false → AreApart rs qs
 apart [] qs e = _
 apart (r ∷ rs) qs e = let s = meet_not r rs qs (has r qs) refl e in (apart_one r qs s.0, apart rs qs s.1)
 
@@ -52,7 +52,7 @@ differ (Packet p n) m e = _
 differ (Unequal x y) m e = _
 differ Ended m e = _
 
-plain : (a : Action) → is_simple a ≡ true → IsPlain a (needs a)
+pub plain : (a : Action) → is_simple a ≡ true → IsPlain a (needs a)
 plain (action.Const r k) e = record { needs = λ f. refl; silent = λ f. refl; has = _ }
 plain (action.Copy r x) e = record { needs = λ f. refl; silent = λ f. refl; has = _ }
 plain (action.Apply o r x y) e = record { needs = λ f. refl; silent = λ f. refl; has = _ }
@@ -124,7 +124,7 @@ puts_commute f (r ∷ rs) [] vs ys a = refl
 puts_commute f (r ∷ rs) (x ∷ xs) vs ys a = puts_commute (put f r.0 x) rs xs vs ys a.1 ∙ ap (λ g. put_each g rs xs) (put_past f r x vs ys a.0)
 
 -- an action past registers that it neither reads nor writes
-past_registers : (a : Action) (qs : List Reg) → is_simple a ≡ true → AreApart (reads a) qs → AreApart (writes a) qs → (f : Registers) (xs ys : List ℕ)
+pub past_registers : (a : Action) (qs : List Reg) → is_simple a ≡ true → AreApart (reads a) qs → AreApart (writes a) qs → (f : Registers) (xs ys : List ℕ)
     → written (put_each f qs xs) a ys ≡ put_each (written f a ys) qs xs
 past_registers a qs s r w f xs ys =
     writes_results a s (put_each f qs xs) ys
@@ -132,7 +132,7 @@ past_registers a qs s r w f xs ys =
     ∙ sym (puts_commute f (writes a) (results a (words_in f (reads a)) ys) qs xs w)
     ∙ ap (λ g. put_each g qs xs) (sym (writes_results a s f ys))
 
-kept_words : (b : Action) (rs : List Reg) → is_simple b ≡ true → AreApart rs (writes b) → (f : Registers) (xs : List ℕ) → words_in (written f b xs) rs ≡ words_in f rs
+pub kept_words : (b : Action) (rs : List Reg) → is_simple b ≡ true → AreApart rs (writes b) → (f : Registers) (xs : List ℕ) → words_in (written f b xs) rs ≡ words_in f rs
 kept_words b rs s a f xs =
     ap (λ g. words_in g rs) (writes_results b s f xs) ∙ words_stay f (writes b) (results b (words_in f (reads b)) xs) rs a
 
@@ -199,14 +199,21 @@ action_past_print (action.Zero r count) g z t m = absurd cc
 action_past_print (action.Get r x count i) g z t m = absurd cc
 action_past_print (action.Put x count i s) g z t m = absurd cc
 
-both : (b a : Action) → is_simple b ≡ true → is_simple a ≡ true → both_may b a ≡ true → MayPass (Acts b) (Acts a)
-both b a s z e =
+-- neither writes what the other reads or writes, and they take from different lists
+pub record DoNotNeed (b a : Action) : Type 0 where
+  pub lists : ListsDiffer (needs b) (needs a)
+  pub commute : (f : Registers) (xs ys : List ℕ) → written (written f b xs) a ys ≡ written (written f a ys) b xs
+
+pub do_not_need : (b a : Action) → is_simple b ≡ true → is_simple a ≡ true → both_may b a ≡ true → DoNotNeed b a
+do_not_need b a s z e =
     let l = no_then (share_list (needs b) (needs a)) _ e in
     let m = no_then (meet (reads a) (writes b)) _ l.1 in
     let k = no_then (meet (reads b) (writes a)) _ m.1 in
     let w = no_then (meet (writes b) (writes a)) true k.1 in
-    action_before_action b a (needs b) (needs a) (plain b s) (plain a z) (differ (needs b) (needs a) l.0)
-    (both_act b a s z (apart (reads a) (writes b) m.0) (apart (reads b) (writes a) k.0) (apart (writes b) (writes a) w.0))
+    record { lists = differ (needs b) (needs a) l.0; commute = both_act b a s z (apart (reads a) (writes b) m.0) (apart (reads b) (writes a) k.0) (apart (writes b) (writes a) w.0) }
+
+both : (b a : Action) → is_simple b ≡ true → is_simple a ≡ true → both_may b a ≡ true → MayPass (Acts b) (Acts a)
+both b a s z e = let d = do_not_need b a s z e in action_before_action b a (needs b) (needs a) (plain b s) (plain a z) d.lists d.commute
 
 pub sound : (x y : Piece) → may x y ≡ true → MayPass x y
 sound (Awaits q qs) (Sends p rs) e = send_before_receive q p qs rs (apart rs qs (no_then (meet rs qs) true e).0)

@@ -1,14 +1,12 @@
 -- Hastened hosts stand where a schedule leads them.
-use Rattle.std.proofs.Common.{◌≡◌, inl, inr, ℕ, List, [], Some, refl, sym, ap, ◌∙◌, subst}
+use Rattle.std.proofs.Common.{◌≡◌, ℕ, List, [], refl, sym, ap, ◌∙◌, subst}
 use mathlib.Core.Path.{fun_ext}
 use Rattle.vd_execution.specs.Code.{Code, Finished}
-use Rattle.vd_execution.specs.Schedule.{Steps}
-use Rattle.vd_execution.specs.Step.{Need, answer, need}
-use Rattle.vd_execution.specs.World.{Local, World, Supply, given, moved_on, step, run}
-use Rattle.vd_execution.specs.Joint.{Joint, fresh, resting, at_end}
-use Rattle.vd_execution.proofs.Front.{same_or_not, put_other}
+use Rattle.vd_execution.specs.World.{Local, World, Supply, run}
+use Rattle.vd_execution.specs.Joint.{Joint, fresh, resting}
+use Rattle.vd_execution.proofs.Front.{stays}
 use Rattle.vd_execution.specs.Claims.{RunsWell, IsOnTheWay, last_of}
-use Rattle.vd_execution.proofs.Front.{steps_keep, stepped, twin, remaining, ended_needs}
+use Rattle.vd_execution.proofs.Front.{twin, remaining}
 use Rattle.vd_execution.proofs.Front.{Behind, follow}
 use Rattle.vd_reorder.specs.Hastening.{AreHastened}
 use Rattle.vd_reorder.proofs.Hosts.{comes, hastened_on_the_way}
@@ -31,22 +29,6 @@ on_the_way s j n codes words well are histories =
     subst (λ w. IsOnTheWay s w (last_of s j)) (fun_ext to.1) (hastened_on_the_way s j n codes to.0 well are)
 
 -- ---- a host that has ended
-
--- no step of a host is one of a host that has ended
-stays_by : (s : Supply) (h : ℕ) (l : Local) → l.state.pending ≡ Finished → (g : ℕ) (w u : World) → step s g w ≡ Some u → w h ≡ l → u h ≡ l
-stays_by s h l over g w u e is =
-    let a = stepped s g w u e in
-    elim (same_or_not h g) [
-      | inl same ↦
-          let there : w g ≡ l = ap w (sym same) ∙ is in
-          let none : need (w g).state ≡ need l.state = ap (λ (k : Local). need k.state) there in
-          let able = subst (λ (n : Need). answer (given s w g (w g)) (w g).state.cursors n ≡ Some a.words) (none ∙ ended_needs l over) a.able in
-          absurd cc
-      | inr other ↦ ap (λ (x : World). x h) a.made ∙ put_other w g (moved_on (w g) a.words) h other ∙ is
-    ]
-
-stays : (s : Supply) (n : ℕ) (w v : World) (h : ℕ) → Steps (step s) n w v → (w h).state.pending ≡ Finished → v h ≡ w h
-stays s n w v h t over = steps_keep (step s) (λ (x : World). x h ≡ w h) (stays_by s h (w h) over) n w v t refl
 
 pub ended_whole : EndedHastenedHostsAreWhole
 ended_whole s j n codes words well are histories h over =

@@ -1,5 +1,5 @@
 -- The pass over the text of a code.
-use Rattle.std.proofs.Common.{◌≡◌, ℕ, zero, suc, ◌+◌, Bool, true, false, ◌&&◌, if◌then◌else◌, List, [], ◌∷◌, ◌++◌, length, take, drop, Option, Some, None, Result, Ok, Err, refl, sym, ap, ap₂, ◌∙◌, subst, arith}
+use Rattle.std.proofs.Common.{◌≡◌, ℕ, zero, suc, ◌+◌, Bool, true, false, ◌&&◌, if◌then◌else◌, List, [], ◌∷◌, ◌++◌, length, take, drop, Result, Ok, Err, refl, sym, ap, ap₂, ◌∙◌, subst, arith}
 use Rattle.std.specs.Prelude.{IfOk}
 use Rattle.std.proofs.lemmas.List.{append-nil, length-append, take_at, drop_at}
 use Rattle.vd_base.specs.HostSets.{host}
@@ -9,8 +9,8 @@ use Rattle.vd_execution.specs.declared.instructions.Action.{Action}
 use Rattle.vd_execution.specs.declared.instructions.Action.TheVariants as action
 use Rattle.vd_execution.specs.declared.instructions.Reg.{Reg}
 use Rattle.vd_execution.specs.Code.{Code, Finished, Then, Send, Recv, Choose, Repeat}
-use Rattle.vd_execution.specs.Text.{register, text, IsUnbegun, Open, AfterEnd, AfterElse, Reading, at_else, at_if, at_for, with_instr, read_before, read, IsCodeOf}
-use Rattle.vd_execution.proofs.Front.{read_back, written_back}
+use Rattle.vd_execution.specs.Text.{register, text, IsUnbegun, read, IsCodeOf}
+use Rattle.vd_execution.proofs.Front.{read_back, written_back, code_unbegun}
 use Rattle.vd_reorder.specs.Hastening.{Piece, Acts, Sends, Awaits, Stretch, One, Branch, Loop, stretch_before}
 use Rattle.vd_reorder.specs.ReorderLawsPassing.{passes_turns, passes_all, passes_stretch, sunk, hastened}
 use Rattle.vd_reorder.specs.Careful.{careful}
@@ -323,55 +323,11 @@ module _ (test : Piece → Piece → Bool) where
   still_unbegun n (Repeat r t k body c) u =
       sunk_unbegun n (Loop r t k (hastened test n body)) (hastened test n c) (u.0, (still_unbegun n body u.1.0, tt)) (still_unbegun n c u.1.1)
 
--- what is read has no loop that has begun
-abbrev AllUnbegun : List Open → Type 0
-AllUnbegun [] = Unit {0}
-AllUnbegun (AfterEnd rest ∷ blocks) = IsUnbegun rest × AllUnbegun blocks
-AllUnbegun (AfterElse other rest ∷ blocks) = IsUnbegun other × (IsUnbegun rest × AllUnbegun blocks)
-
-abbrev Unbegun : Reading → Type 0
-Unbegun r = IsUnbegun r.code × AllUnbegun r.blocks
-
-same_unbegun : (r q : Reading) → Some r ≡ Some q → Unbegun r → Unbegun q
-same_unbegun r q e u = let i : r ≡ q = cc in subst Unbegun i u
-
-if_unbegun : (g : ℕ) (c : Code) (bs : List Open) (q : Reading) → IsUnbegun c → AllUnbegun bs → at_if g c bs ≡ Some q → Unbegun q
-if_unbegun g c [] q u v e = absurd cc
-if_unbegun g c (AfterEnd rest ∷ bs) q u v e = absurd cc
-if_unbegun g c (AfterElse other rest ∷ bs) q u v e = same_unbegun _ q e ((u, (v.0, v.1.0)), v.1.1)
-
-else_unbegun : (c : Code) (bs : List Open) (q : Reading) → IsUnbegun c → AllUnbegun bs → at_else c bs ≡ Some q → Unbegun q
-else_unbegun c [] q u v e = absurd cc
-else_unbegun c (AfterElse other rest ∷ bs) q u v e = absurd cc
-else_unbegun c (AfterEnd rest ∷ bs) q u v e = same_unbegun _ q e (tt, (u, (v.0, v.1)))
-
-for_unbegun : (r n : ℕ) (c : Code) (bs : List Open) (q : Reading) → IsUnbegun c → AllUnbegun bs → at_for r n c bs ≡ Some q → Unbegun q
-for_unbegun r n c [] q u v e = absurd cc
-for_unbegun r n c (AfterElse other rest ∷ bs) q u v e = absurd cc
-for_unbegun r n c (AfterEnd rest ∷ bs) q u v e = same_unbegun _ q e ((refl, (u, v.0)), v.1)
-
-instr_unbegun : (i : Instr) (c : Code) (bs : List Open) (q : Reading) → IsUnbegun c → AllUnbegun bs → with_instr i c bs ≡ Some q → Unbegun q
-instr_unbegun (instr.Do a) c bs q u v e = same_unbegun _ q e (u, v)
-instr_unbegun (instr.Send p rs) c bs q u v e = same_unbegun _ q e (u, v)
-instr_unbegun (instr.Recv p rs) c bs q u v e = same_unbegun _ q e (u, v)
-instr_unbegun (instr.If g) c bs q u v e = if_unbegun g.0 c bs q u v e
-instr_unbegun instr.Else c bs q u v e = else_unbegun c bs q u v e
-instr_unbegun (instr.For r n) c bs q u v e = for_unbegun r.0 n c bs q u v e
-instr_unbegun instr.End c bs q u v e = same_unbegun _ q e (tt, (u, v))
-
-instr_before : (i : Instr) (o : Option Reading) (q : Reading) → ((r : Reading) → o ≡ Some r → Unbegun r) → read_before i o ≡ Some q → Unbegun q
-instr_before i None q ih e = absurd cc
-instr_before i (Some r) q ih e = let u = ih r refl in instr_unbegun i r.code r.blocks q u.0 u.1 e
-
-read_unbegun : (is : List Instr) (q : Reading) → read is ≡ Some q → Unbegun q
-read_unbegun [] q e = same_unbegun _ q e (tt, tt)
-read_unbegun (i ∷ is) q e = instr_before i (read is) q (λ r f. read_unbegun is r f) e
-
 -- ---- all of it
 
 pub text_passed : (test : Piece → Piece → Bool) (n : ℕ) (is : List Instr) (c : Code) → IsCodeOf is c → IsCodeOf (hastened_text test n is) (hastened test n c)
 text_passed test n is c e =
-    let u : IsUnbegun c = (read_unbegun is (record { code = c; blocks = [] }) e).0 in
+    let u : IsUnbegun c = code_unbegun is c e in
     let same : hastened_text test n is ≡ text (hastened test n c) [] = ap (hastened_text test n) (sym (written_back is c e)) ∙ all_texts test n c [] tt in
     ap read same ∙ read_back (hastened test n c) (still_unbegun test n c u)
 
