@@ -1,5 +1,5 @@
 -- What a host's machine wants and does, and what its code keeps.
-use Rattle.std.proofs.Common.{◌≡◌, ◌<◌, ◌≤◌, ℕ, suc, ◌+◌, ◌-◌, ◌*◌, Bool, true, false, cond, List, [], length, map, Option, Some, None, refl, sym, ap, subst, ◌∙◌, arith}
+use Rattle.std.proofs.Common.{◌≡◌, ◌<◌, ◌≤◌, ℕ, suc, ◌-◌, Bool, true, false, cond, List, [], length, map, Option, Some, None, refl, sym, ap, subst, ◌∙◌, arith}
 use Rattle.std.specs.Prelude.{nat_eq, nat_lt, if◌then◌else◌}
 use Rattle.std.proofs.lemmas.List.{length-map}
 use borrow.Author.Tests.{ltb-true}
@@ -22,6 +22,7 @@ use Rattle.vd_machine.specs.Machines.{IsLeft, IsMet}
 use Rattle.vd_machine.specs.Wants.{want_of, short, count_of}
 use Rattle.vd_engine.specs.Events.{IsHeard, shown}
 use Rattle.vd_engine.specs.Hosts.{CanShow, IsPacketWith, PacketsAreWith}
+use Rattle.vd_execution.proofs.Front.{weight_falls}
 
 -- ---- what is wanted
 
@@ -199,36 +200,6 @@ also_with holds later (Choose g first other c) goes are = (also_with holds later
 also_with holds later (Repeat r turn count body c) goes are = (also_with holds later body goes are.0, also_with holds later c goes are.1)
 
 -- ---- each step makes what is pending less
-
-weight_both : (c d : Code) → weight (followed_by c d) ≡ weight c + weight d
-weight_both Finished d = omega arith
-weight_both (Then a c) d = let h = weight_both c d in omega arith
-weight_both (Send p rs c) d = let h = weight_both c d in omega arith
-weight_both (Recv p rs c) d = let h = weight_both c d in omega arith
-weight_both (Choose r a b c) d = let h = weight_both c d in omega arith
-weight_both (Repeat r t k body c) d = let h = weight_both c d in omega arith
-
-one_turn : (n m x y : ℕ) → n ≡ suc m → x + (m * suc x + suc y) < n * suc x + suc y
-one_turn n m x y e = subst (λ z. x + (m * suc x + suc y) < z * suc x + suc y) (sym e) (omega arith)
-
-turn_falls : (b : Bool) (r t k : ℕ) (body c : Code) → (b ≡ true → t < k) → weight (cond b (followed_by body (Repeat r (suc t) k body c)) c) < weight (Repeat r t k body c)
-turn_falls true r t k body c h =
-    let lt = h refl in
-    let e : k - t ≡ suc (k - suc t) = omega arith in
-    rw (weight_both body (Repeat r (suc t) k body c)) (one_turn (k - t) (k - suc t) (weight body) (weight c) e)
-turn_falls false r t k body c h = omega arith
-
-choice_falls : (z : Bool) (a b c : Code) → weight (followed_by (cond z b a) c) < suc (weight a + weight b + weight c)
-choice_falls true a b c = let h = weight_both b c in omega arith
-choice_falls false a b c = let h = weight_both a c in omega arith
-
-weight_falls : (f : Registers) (c : Code) → (need_of f c ≡ Ended → ⊥) → weight (pending_after f c) < weight c
-weight_falls f Finished h = absurd (h refl)
-weight_falls f (Then a c) h = omega arith
-weight_falls f (Send p rs c) h = omega arith
-weight_falls f (Recv p rs c) h = omega arith
-weight_falls f (Choose r a b c) h = choice_falls (nat_eq (f r) 0) a b c
-weight_falls f (Repeat r t k body c) h = turn_falls (nat_lt t k) r t k body c (ltb-true t k)
 
 ended_is_unheard : (l : Lists) (cursors : Cursors) (n : Need) (heard : List ℕ) → IsHeard (want_of l cursors n) heard → n ≡ Ended → ⊥
 ended_is_unheard l cursors n heard h is = subst (λ (m : Need). IsHeard (want_of l cursors m) heard) is h

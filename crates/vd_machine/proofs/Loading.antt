@@ -17,7 +17,8 @@ use Rattle.vd_machine.specs.Kept.{code_of, span, IsFit, FrameFits, IsSettled, Is
 use Rattle.vd_machine.specs.Resolved.{ops_of}
 use Rattle.vd_execution.specs.Ranges.{CodeFits, PacketsFit, depth}
 use Rattle.vd_machine.proofs.Spans.{followed_by_none, span_whole}
-use Rattle.vd_machine.proofs.Whole.{code_back, code_unbegun, fit, zeros_held, none_taken}
+use Rattle.vd_machine.proofs.Whole.{code_back, fit, zeros_held, none_taken}
+use Rattle.vd_execution.proofs.Front.{code_unbegun}
 
 all_none : {X : Type 0} (P : X → Type 0) (xs : List X) → xs ≡ [] → All P xs
 all_none P [] e = λ k d h. absurd (omega (arith, h))

@@ -1,12 +1,10 @@
 -- The instructions of a code, with the lengths of their blocks, are that code.
-use Rattle.std.proofs.Common.{◌≡◌, ℕ, zero, suc, ◌≤◌, List, [], ◌∷◌, ◌++◌, length, take, drop, replicate, Option, Some, None, refl, sym, ap, ap₂, ◌∙◌, subst, arith, get_or, append_assoc}
+use Rattle.std.proofs.Common.{◌≡◌, ℕ, zero, suc, ◌≤◌, List, [], ◌∷◌, ◌++◌, length, take, drop, replicate, refl, sym, ap, ap₂, ◌∙◌, subst, arith, get_or, append_assoc}
 use Rattle.std.proofs.Math.Seq.{take-append_seam}
 use mathlib.Core.Path.{fun_ext}
-use Rattle.vd_execution.specs.declared.instructions.Instr.{Instr}
-use Rattle.vd_execution.specs.declared.instructions.Instr.TheVariants as instr
 use Rattle.vd_execution.specs.Code.{Code, Finished, Then, Send, Recv, Choose, Repeat}
 use Rattle.vd_base.specs.HostSets.{host}
-use Rattle.vd_execution.specs.Text.{IsUnbegun, Open, AfterEnd, AfterElse, Reading, at_else, at_if, at_for, with_instr, read_before, read, IsCodeOf}
+use Rattle.vd_execution.specs.Text.{IsUnbegun}
 use Rattle.vd_execution.specs.Step.{Source, Inputs, OwnWords, Triples, BitTriples, Pairs}
 use Rattle.vd_machine.specs.declared.ops.Plain.TheVariants as plain
 use Rattle.vd_machine.specs.declared.ops.Op.{Op}
@@ -96,53 +94,6 @@ fit r (Repeat x i n body c) f =
       within r m _ _ (take_ops body (ops_of c [])) (fit r body f.1.0) (omega (arith, y, a)),
       within r m _ _ (drop_ops body (ops_of c [])) (fit r c f.1.1) (omega (arith, y, d)),
     )
-
--- what is read has no loop that has begun
-abbrev AllUnbegun : List Open → Type 0
-AllUnbegun [] = Unit {0}
-AllUnbegun (AfterEnd rest ∷ blocks) = IsUnbegun rest × AllUnbegun blocks
-AllUnbegun (AfterElse other rest ∷ blocks) = IsUnbegun other × (IsUnbegun rest × AllUnbegun blocks)
-
-abbrev Unbegun : Reading → Type 0
-Unbegun r = IsUnbegun r.code × AllUnbegun r.blocks
-
-same_unbegun : (r q : Reading) → Some r ≡ Some q → Unbegun r → Unbegun q
-same_unbegun r q e u = let i : r ≡ q = cc in subst Unbegun i u
-
-if_unbegun : (g : ℕ) (c : Code) (bs : List Open) (q : Reading) → IsUnbegun c → AllUnbegun bs → at_if g c bs ≡ Some q → Unbegun q
-if_unbegun g c [] q u v e = absurd cc
-if_unbegun g c (AfterEnd rest ∷ bs) q u v e = absurd cc
-if_unbegun g c (AfterElse other rest ∷ bs) q u v e = same_unbegun _ q e ((u, (v.0, v.1.0)), v.1.1)
-
-else_unbegun : (c : Code) (bs : List Open) (q : Reading) → IsUnbegun c → AllUnbegun bs → at_else c bs ≡ Some q → Unbegun q
-else_unbegun c [] q u v e = absurd cc
-else_unbegun c (AfterElse other rest ∷ bs) q u v e = absurd cc
-else_unbegun c (AfterEnd rest ∷ bs) q u v e = same_unbegun _ q e (tt, (u, (v.0, v.1)))
-
-for_unbegun : (r n : ℕ) (c : Code) (bs : List Open) (q : Reading) → IsUnbegun c → AllUnbegun bs → at_for r n c bs ≡ Some q → Unbegun q
-for_unbegun r n c [] q u v e = absurd cc
-for_unbegun r n c (AfterElse other rest ∷ bs) q u v e = absurd cc
-for_unbegun r n c (AfterEnd rest ∷ bs) q u v e = same_unbegun _ q e ((refl, (u, v.0)), v.1)
-
-instr_unbegun : (i : Instr) (c : Code) (bs : List Open) (q : Reading) → IsUnbegun c → AllUnbegun bs → with_instr i c bs ≡ Some q → Unbegun q
-instr_unbegun (instr.Do a) c bs q u v e = same_unbegun _ q e (u, v)
-instr_unbegun (instr.Send p rs) c bs q u v e = same_unbegun _ q e (u, v)
-instr_unbegun (instr.Recv p rs) c bs q u v e = same_unbegun _ q e (u, v)
-instr_unbegun (instr.If g) c bs q u v e = if_unbegun g.0 c bs q u v e
-instr_unbegun instr.Else c bs q u v e = else_unbegun c bs q u v e
-instr_unbegun (instr.For r n) c bs q u v e = for_unbegun r.0 n c bs q u v e
-instr_unbegun instr.End c bs q u v e = same_unbegun _ q e (tt, (u, v))
-
-before_unbegun : (i : Instr) (o : Option Reading) (q : Reading) → ((r : Reading) → o ≡ Some r → Unbegun r) → read_before i o ≡ Some q → Unbegun q
-before_unbegun i None q ih e = absurd cc
-before_unbegun i (Some r) q ih e = let u = ih r refl in instr_unbegun i r.code r.blocks q u.0 u.1 e
-
-read_unbegun : (is : List Instr) (q : Reading) → read is ≡ Some q → Unbegun q
-read_unbegun [] q e = same_unbegun _ q e (tt, tt)
-read_unbegun (i ∷ is) q e = before_unbegun i (read is) q (λ r f. read_unbegun is r f) e
-
-pub code_unbegun : (is : List Instr) (c : Code) → IsCodeOf is c → IsUnbegun c
-code_unbegun is c e = (read_unbegun is (record { code = c; blocks = [] }) e).0
 
 -- at the start
 zeros_at : (n j : ℕ) → get_or (replicate n zero) j zero ≡ zero
