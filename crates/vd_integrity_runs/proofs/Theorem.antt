@@ -23,7 +23,7 @@ use Rattle.vd_split.specs.Emission.{Emission, Emitting, emitting_at_start, in_tu
 use Rattle.vd_split.specs.Validity.{emission_of}
 use Rattle.vd_core.specs.Numbers.{NumbersFit}
 use Rattle.vd_split.specs.Outcome.{Starts}
-use Rattle.vd_split.proofs.Front.{fold_each, InRow, row_of, Use, Binding, Variable, Array, Sees, slots, sees}
+use Rattle.vd_split.proofs.Front.{fold_each, InRow, row_of, Use, Binding, Variable, Array, Sees, slots, sees, all_fit, no_turns, tied_at_start}
 use Rattle.vd_semantics.specs.ProgramMeaning.{word_at}
 use Rattle.vd_backend_laws.specs.Machine.{machine}
 use Rattle.vd_backend_laws.specs.Parts.{suite_calls}
@@ -42,7 +42,6 @@ use Rattle.vd_space.specs.Cheapest.{IsAssignment}
 use Rattle.vd_noninter_protocols.specs.Keeping.{is_kept}
 use Rattle.vd_noninter_protocols.proofs.Front.{words_guarded}
 use Rattle.vd_noninter_protocols.specs.Told.{IsDealt}
-use Rattle.vd_noninter_protocols.proofs.Front.{all_fit, no_turns, tied_at_start}
 use Rattle.vd_integrity_runs.specs.Copies.{IsInClear}
 use Rattle.vd_integrity_runs.specs.Departing.{AreRight}
 use Rattle.vd_integrity_runs.specs.Endorsed.{Doing, Given, all_done, given_step}

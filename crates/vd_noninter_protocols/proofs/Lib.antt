@@ -12,7 +12,6 @@ mod Labels
 mod Differences
 mod Blocks
 mod NoninterRegistersExamples
-mod Fits
 mod Hosts
 mod InClear
 mod Moved

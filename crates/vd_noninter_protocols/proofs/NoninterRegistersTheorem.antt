@@ -16,7 +16,7 @@ use Rattle.vd_split.specs.Block.{block_of, each}
 use Rattle.vd_split.specs.Suite.{Laws}
 use Rattle.vd_split.specs.Emission.{emitting_at_start}
 use Rattle.vd_split.specs.Outcome.{Starts}
-use Rattle.vd_split.proofs.Front.{fold_each, InRow, row_of, slots, sees}
+use Rattle.vd_split.proofs.Front.{fold_each, InRow, row_of, slots, sees, all_fit, no_turns, tied_at_start}
 use Rattle.vd_backend_laws.specs.Machine.{machine}
 use Rattle.vd_backend_laws.specs.Suite.{suite}
 use Rattle.vd_backend_laws.specs.Whole.{code_at, inputs_of, CanRun}
@@ -32,7 +32,6 @@ use Rattle.vd_noninter_protocols.proofs.Theorem.{all_hear_readable, all_hear_rea
 use Rattle.vd_noninter_protocols.specs.Telling.{told}
 use Rattle.vd_noninter_protocols.specs.Told.{IsDealt, TellsWhatIsHeard, printed_words, TellsOnlyAssigned}
 use Rattle.vd_noninter_protocols.proofs.Blocks.{all_told}
-use Rattle.vd_noninter_protocols.proofs.Fits.{all_fit, no_turns, tied_at_start}
 use Rattle.vd_noninter_protocols.proofs.InClear.{in_clear}
 
 all_dropped : (xs : List ℕ) → drop 0 xs ≡ xs

@@ -10,3 +10,4 @@ pub use Rattle.vd_split.proofs.ChoreographyRights.{Done, Turning, index_reached,
 pub use Rattle.vd_split.proofs.Sight.{Array, Binding, New, Old, Sees, Use, Variable, Which, changing, content, item_put, which, with_use}
 pub use Rattle.vd_split.proofs.ChoreographySteps.{After, E, Ties, TurnsIn, array_after, let_after, other_array, other_word, output_after, put_after, store_after, turns_past, unchanging_past, var_after}
 pub use Rattle.vd_split.proofs.Tied.{Distinct, Other, Same, Tied, Unchanging, part, tied_past}
+pub use Rattle.vd_split.proofs.Fits.{all_fit, no_turns, tied_at_start}

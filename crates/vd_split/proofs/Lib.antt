@@ -20,6 +20,7 @@ mod Keeps
 mod Lists
 mod Loops
 mod Orderly
+mod Fits
 mod Programs
 mod ChoreographyRights
 mod Runs

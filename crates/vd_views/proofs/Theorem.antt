@@ -22,7 +22,7 @@ use Rattle.vd_split.specs.Suite.{Laws}
 use Rattle.vd_split.specs.Emission.{Emitting, Emission, in_turn, stmt_emission, emitting_at_start}
 use Rattle.vd_split.specs.Outcome.{Starts}
 use Rattle.vd_split.specs.ChoreographyPlaces.{is_part}
-use Rattle.vd_split.proofs.Front.{fold_each, row_of, slots, program_within}
+use Rattle.vd_split.proofs.Front.{fold_each, row_of, slots, program_within, all_fit, no_turns, tied_at_start}
 use Rattle.vd_backend_laws.specs.Machine.{machine}
 use Rattle.vd_backend_laws.specs.Parts.{suite_calls}
 use Rattle.vd_backend_laws.specs.Suite.{suite}
@@ -40,7 +40,6 @@ use Rattle.vd_views.proofs.WayBack.{first_again}
 use Rattle.vd_noninter.specs.Reading.{start}
 use Rattle.vd_noninter_protocols.specs.Hearing.{Heard, heard_step, heard_in_order}
 use Rattle.vd_noninter_protocols.specs.Told.{IsDealt}
-use Rattle.vd_noninter_protocols.proofs.Front.{all_fit, no_turns, tied_at_start}
 use Rattle.vd_views.specs.Sides.{AreKin, Both}
 use Rattle.vd_views.specs.Explained.{IsOfTwo, plan_of, input_words, AgreeFor, OthersAreExplained, ExplainedBack}
 use Rattle.vd_views.proofs.Plain.{plan_plain}

@@ -1,4 +1,4 @@
--- What a well-made program keeps at its start, as the theory of splitting asks for it.
+-- What a well-made program keeps at its start.
 use Rattle.std.proofs.Common.{◌≡◌, ℕ, zero, suc, ◌^◌, ◌<◌, ◌≤◌, Bool, true, ◌&&◌, ◌||◌, not, nat_lt, nat_le, List, [], ◌∷◌, length, map, replicate, slice_index, slice_index_or, ◌⊎◌, inl, inr, refl, sym, ap, ◌∙◌, subst, arith}
 use Rattle.std.proofs.lemmas.Bool.{eqb-true}
 use Rattle.std.proofs.lemmas.Bool.Decides.{nat_tests}
@@ -21,7 +21,10 @@ use Rattle.vd_split.specs.Suite.{Suite}
 use Rattle.vd_split.specs.Validity.{RightFits, Fits, turns_at}
 use Rattle.vd_core.specs.Numbers.{NumbersFit, numbers_fit, number_fits, factor_fits}
 use Rattle.vd_split.specs.Outcome.{Starts}
-use Rattle.vd_split.proofs.Front.{and_left, and_right, or_cases, Use, Binding, Variable, Array, Sees, Tied, fold_each}
+use Rattle.vd_split.proofs.Lists.{and_left, and_right, or_cases}
+use Rattle.vd_split.proofs.Sight.{Use, Binding, Variable, Array, Sees}
+use Rattle.vd_split.proofs.Tied.{Tied}
+use Rattle.vd_split.proofs.Folds.{fold_each}
 
 abbrev holds : (Stmt-F Bool → Bool) → Block → Bool
 holds test b = list_all (λ x. x) (each (λ s. test s && blocks_meet s) b)
