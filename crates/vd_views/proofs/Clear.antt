@@ -17,9 +17,8 @@ use Rattle.vd_duet.specs.Builder.{next_at, taken}
 use Rattle.vd_duet.specs.Calls.{Places, hosts_of, Made}
 use Rattle.vd_duet.specs.Laws.{IsHost, Copies}
 use Rattle.vd_clear.specs.Copies.{passed, told, compared, adopted, first_register, shown, each_made}
-use Rattle.vd_views.specs.Sides.{AreKin, after, Telling}
+use Rattle.vd_views.specs.Sides.{AreKin, after, Telling, Each, IsQuiet}
 use Rattle.vd_views.proofs.Sides.{after_append, telling_then, telling_quiet, telling_on}
-use Rattle.vd_views.proofs.ViewsBackendsCalls.{AreQuiet}
 
 -- ---- registers of the hosts that hear nothing
 
@@ -85,11 +84,11 @@ copies_still [] k out w u v keeps e = tt
 copies_still (q ∷ x) k out w u v keeps e =
     (ap (λ (f : Registers). f q.1.0) (keeps q.0.0 (λ i. out (inl (sym i)))) ∙ e.0, copies_still x k (λ i. out (inr i)) w u v keeps e.1)
 
-compared_quiet : (k : HostId) (rs : List Reg) → AreQuiet (compared k rs)
+compared_quiet : (k : HostId) (rs : List Reg) → Each IsQuiet (compared k rs)
 compared_quiet k [] = tt
 compared_quiet k (r ∷ rs) = each k r rs
   where
-    each : (k : HostId) (r : Reg) (rs : List Reg) → AreQuiet (map (λ s. Alone k (action.Same r s)) rs)
+    each : (k : HostId) (r : Reg) (rs : List Reg) → Each IsQuiet (map (λ s. Alone k (action.Same r s)) rs)
     each k r [] = tt
     each k r (s ∷ rs) = (tt, each k r rs)
 

@@ -22,12 +22,15 @@ mod Deals
 mod Numbers
 mod Sides
 mod ViewsBackendsPlans
-mod ViewsBackendsCalls
+mod Rows
+mod Ordinary
+mod Usual
 mod Clear
 mod Pairs
 mod ToSums
 mod Moves
 mod Compose
+mod Kept
 mod Plain
 mod Words
 mod ViewsProgramsCalls
@@ -46,7 +49,4 @@ mod Lists
 mod Hosts
 mod Counted
 mod Files
-mod Rows
-mod EquivocationPairsCalls
-mod EquivocationPairsMoves
 mod Programs

@@ -1,6 +1,6 @@
 -- The moves of the suite: a host is told the word where it comes to have it in clear, and else nothing openly but own words.
-use Rattle.std.proofs.Common.{◌≡◌, ◌≢◌, ℕ, ◌<◌, nat_eq, Bool, true, false, if◌then◌else◌, IsTrue, is_some, List, [], ◌∷◌, ◌++◌, ◌⊎◌, inl, inr, refl, sym, subst, subst₂}
-use Rattle.std.specs.Prelude.{map, slice_index}
+use Rattle.std.proofs.Common.{◌≡◌, ◌≢◌, ℕ, ◌<◌, nat_eq, Bool, true, false, IsTrue, is_some, List, [], ◌∷◌, ◌⊎◌, inl, inr, refl, sym, subst, subst₂}
+use Rattle.std.specs.Prelude.{slice_index}
 use Rattle.vd_base.specs.declared.ids.HostId.{HostId}
 use Rattle.vd_base.specs.declared.protocols.HostSet.{HostSet}
 use Rattle.vd_base.specs.declared.protocols.Proto.{Proto}
@@ -8,122 +8,35 @@ use Rattle.vd_base.specs.declared.protocols.Proto.TheVariants.{Local, Rep, Commi
 use Rattle.vd_base.specs.declared.operations.Op.TheVariants as op
 use Rattle.vd_base.specs.HostSets.{host, same_host, is_pair}
 use Rattle.vd_base.specs.Moves.{move_if, same_hosts, is_either}
-use Rattle.vd_base.specs.Holders.{holders, is_among}
-use Rattle.vd_execution.specs.declared.instructions.Reg.{Reg}
+use Rattle.vd_base.specs.Holders.{holders}
 use Rattle.vd_execution.specs.declared.instructions.Action.TheVariants as action
 use Rattle.vd_execution.specs.World.{Tape}
 use Rattle.vd_execution.specs.Joint.{Hosts}
-use Rattle.vd_execution.specs.Gadgets.{Sharing, BySums, ByXors, Gadget, Alone, Tells}
-use Rattle.vd_duet.specs.Builder.{next_at, taken}
-use Rattle.vd_duet.specs.Calls.{Places, hosts_of, Made}
+use Rattle.vd_execution.specs.Gadgets.{BySums, ByXors, Gadget}
+use Rattle.vd_duet.specs.Builder.{taken}
 use Rattle.vd_duet.specs.Laws.{IsHost, IsReady, Copies, Operand}
 use Rattle.vd_duet.proofs.Front.{taken_other}
-use Rattle.vd_clear.specs.Copies.{clear_calls, passed, told, compared, adopted, first_register, shown, each_made}
+use Rattle.vd_clear.specs.Copies.{clear_calls, told}
 use Rattle.vd_clear.proofs.Front.{copies_of}
-use Rattle.vd_backend_sharing.specs.declared.shares.Shares.{Shares}
-use Rattle.vd_backend_sharing.specs.PairCalls.{adopted_shares, shares_of, split_off, exchanged, shared_from, opened_by, shown_at, places_at}
+use Rattle.vd_backend_sharing.specs.PairCalls.{adopted_shares, shares_of, shared_from}
 use Rattle.vd_backend_sharing.proofs.Front.{Parts, parts_of}
 use Rattle.vd_words.specs.AddCalls.{add_serves, add_apply}
-use Rattle.vd_backend_sharing.specs.Gates.{gates_of}
-use Rattle.vd_bits.specs.BitCalls.{circuit_shares, computed}
+use Rattle.vd_bits.specs.BitCalls.{circuit_shares}
 use Rattle.vd_circuit.specs.CircuitCalls.{circuit_serves}
-use Rattle.vd_convert.specs.Convert.{masked_parts, to_xor_made, drawn, finished, to_add_made}
+use Rattle.vd_convert.specs.Convert.{to_xor_made, to_add_made}
 use Rattle.vd_split.specs.Suite.{Ready, Operand as AnyOperand}
 use Rattle.vd_split.proofs.Front.{and_left, and_right, or_cases}
 use Rattle.vd_backend_laws.specs.Moves.{only}
 use Rattle.vd_backend_laws.specs.Parts.{Parts as SlotParts, has_back_end, back_end, suite_calls}
 use Rattle.vd_backend_laws.specs.Suite.{IsOver, joins}
 use Rattle.vd_backend_laws.proofs.Front.{M, S, ready_at, operand_at, sole, equal_of, in_order, ordered_differ, no_back_end, members_of_pair}
-use Rattle.vd_views.specs.Sides.{AreKin, Telling, Each, IsPlain, HasClear}
-use Rattle.vd_views.proofs.Sides.{each_append, all_plain, telling_quiet}
-use Rattle.vd_views.proofs.ViewsBackendsCalls.{AreQuiet, gates_quiet}
+use Rattle.vd_views.specs.Sides.{AreKin, Telling, HasClear}
+use Rattle.vd_views.proofs.Sides.{telling_quiet}
+use Rattle.vd_views.proofs.Ordinary.{AreOrdinary, all_quiet}
+use Rattle.vd_views.proofs.Usual.{share_ordinary, to_xor_ordinary}
 use Rattle.vd_views.proofs.Clear.{passed_tells, shown_tells, spread_tells}
 use Rattle.vd_views.proofs.Pairs.{shown_tells as pair_shown, all_shown_tells}
 use Rattle.vd_views.proofs.ToSums.{to_add_tells}
-
--- ---- what moves are made of
-
-share_quiet : (s : Sharing) (a b from : HostId) (x : Reg) (next : List ℕ) → AreQuiet (shared_from s a b from x next).gadgets
-share_quiet s a b from x next = at (nat_eq from.0 a.0)
-  where
-    at : (z : Bool) → AreQuiet (if z then split_off s a b x next else exchanged (split_off s b a x next)).gadgets
-    at true = (tt, (tt, tt))
-    at false = (tt, (tt, tt))
-
-to_xor_quiet : (a b : HostId) (x : Places) (next : List ℕ) → AreQuiet (to_xor_made a b x next).gadgets
-to_xor_quiet a b x next = (tt, (tt, (tt, gates_quiet a b (gates_of op.Add) _ (masked_parts a b (shares_of x) next).next)))
-
-abbrev pub ArePlain : List Gadget → Type 0
-ArePlain gs = Each IsPlain gs
-
-each_plain : (f : HostId → List ℕ → Made Reg) → ((k : HostId) (next : List ℕ) → ArePlain (f k next).gadgets) → (hs : List HostId) (next : List ℕ) → ArePlain (each_made f hs next).gadgets
-each_plain f q [] next = tt
-each_plain f q (k ∷ hs) next = each_append IsPlain (f k next).gadgets (each_made f hs (f k next).next).gadgets (q k next) (each_plain f q hs (f k next).next)
-
-passed_plain : (a : HostId) (x : Reg) (k : HostId) (next : List ℕ) → ArePlain (passed a x k next).gadgets
-passed_plain a x k next = at (nat_eq a.0 k.0)
-  where
-    at : (b : Bool) → let one : Made Reg = if b then record { given = x; gadgets = []; next = next } else record { given = next_at next k; gadgets = Tells a (x ∷ []) k (next_at next k ∷ []) ∷ []; next = taken k 1 next } in ArePlain one.gadgets
-    at true = tt
-    at false = (tt, tt)
-
-told_plain : (x : Places) (k : HostId) (next : List ℕ) → ArePlain (told x k next).gadgets
-told_plain [] k next = tt
-told_plain (q ∷ x) k next = (tt, told_plain x k (taken k 1 next))
-
-compared_plain : (k : HostId) (rs : List Reg) → ArePlain (compared k rs)
-compared_plain k [] = tt
-compared_plain k (r ∷ rs) = each k r rs
-  where
-    each : (k : HostId) (r : Reg) (rs : List Reg) → ArePlain (map (λ s. Alone k (action.Same r s)) rs)
-    each k r [] = tt
-    each k r (s ∷ rs) = (tt, each k r rs)
-
-shown_plain : (x : Places) (k : HostId) (next : List ℕ) → ArePlain (shown x k next).gadgets
-shown_plain x k next = at (is_among (hosts_of x) k.0)
-  where
-    at : (b : Bool)
-        → let one : Made Reg = if b then adopted x k next else record { given = first_register (told x k next).given; gadgets = (told x k next).gadgets ++ compared k (told x k next).given; next = (told x k next).next } in
-        ArePlain one.gadgets
-    at true = tt
-    at false = each_append IsPlain (told x k next).gadgets (compared k (told x k next).given) (told_plain x k next) (compared_plain k (told x k next).given)
-
-opened_plain : (s : Sharing) (a b : HostId) (x : Shares) (k : HostId) (next : List ℕ) → ArePlain (shown_at s a b x k next).gadgets
-opened_plain s a b x k next = at (nat_eq k.0 a.0)
-  where
-    at : (z : Bool) → ArePlain (if z then opened_by s b x.second a x.first next else opened_by s a x.first b x.second next).gadgets
-    at true = (tt, (tt, tt))
-    at false = (tt, (tt, tt))
-
-to_add_plain : (a b : HostId) (x : Places) (next : List ℕ) → ArePlain (to_add_made a b x next).gadgets
-to_add_plain a b x next =
-    let pair = drawn a b (shares_of x) next in
-    let rest = computed a b op.Sub (x ∷ places_at a b pair.given.1 ∷ []) pair.next in
-    (tt, each_append IsPlain rest.gadgets (finished a b (shares_of rest.given) pair.given.0 rest.next).gadgets (all_plain rest.gadgets (gates_quiet a b (gates_of op.Sub) _ pair.next)) (tt, (tt, (tt, (tt, (tt, tt))))))
-
--- no host takes an own word by itself in a move
-pub move_plain : (hosts : ℕ) (p q : Proto) → has_back_end p ≡ true → has_back_end q ≡ true → (x : SlotParts) (next : List ℕ) → ArePlain ((suite_calls hosts).move p q x next).acts
-move_plain hosts (Commit u v) q e f x next = no_back_end e
-move_plain hosts (Local a) (Local k) e f x next = each_plain (passed a (only x.at)) (passed_plain a (only x.at)) (holders (Local k)) next
-move_plain hosts (Local a) (Rep set) e f x next = each_plain (passed a (only x.at)) (passed_plain a (only x.at)) (holders (Rep set)) next
-move_plain hosts (Local a) (Commit u v) e f x next = no_back_end f
-move_plain hosts (Local a) (Add u v) e f x next = all_plain (shared_from BySums u v a (only x.at) next).gadgets (share_quiet BySums u v a (only x.at) next)
-move_plain hosts (Local a) (Xor u v) e f x next = all_plain (shared_from ByXors u v a (only x.at) next).gadgets (share_quiet ByXors u v a (only x.at) next)
-move_plain hosts (Rep set) (Local k) e f x next = shown_plain x.at k next
-move_plain hosts (Rep set) (Rep other) e f x next = each_plain (shown x.at) (shown_plain x.at) (holders (Rep other)) next
-move_plain hosts (Rep set) (Commit u v) e f x next = no_back_end f
-move_plain hosts (Rep set) (Add u v) e f x next = (tt, tt)
-move_plain hosts (Rep set) (Xor u v) e f x next = (tt, tt)
-move_plain hosts (Add a b) (Local k) e f x next = opened_plain BySums a b (shares_of x.at) k next
-move_plain hosts (Add a b) (Rep set) e f x next = (tt, (tt, (tt, (tt, tt))))
-move_plain hosts (Add a b) (Commit u v) e f x next = no_back_end f
-move_plain hosts (Add a b) (Add u v) e f x next = tt
-move_plain hosts (Add a b) (Xor u v) e f x next = all_plain (to_xor_made u v x.at next).gadgets (to_xor_quiet u v x.at next)
-move_plain hosts (Xor a b) (Local k) e f x next = opened_plain ByXors a b (shares_of x.at) k next
-move_plain hosts (Xor a b) (Rep set) e f x next = (tt, (tt, (tt, (tt, tt))))
-move_plain hosts (Xor a b) (Commit u v) e f x next = no_back_end f
-move_plain hosts (Xor a b) (Add u v) e f x next = to_add_plain u v x.at next
-move_plain hosts (Xor a b) (Xor u v) e f x next = tt
 
 -- ---- what joins
 
@@ -195,8 +108,8 @@ module _ (h : ℕ) (t y : Tape) (kin : AreKin h t y) (inputs others : ℕ → Li
         alone (inr e) = absurd e
     from_one (Rep set) f same = passed_tells h t y kin a (only x.at) c d (holders (Rep set)) next w v held same
     from_one (Commit u z) f same = no_back_end f
-    from_one (Add u z) f same = telling_quiet h t y kin (shared_from BySums u z a (only x.at) next).gadgets w v (share_quiet BySums u z a (only x.at) next)
-    from_one (Xor u z) f same = telling_quiet h t y kin (shared_from ByXors u z a (only x.at) next).gadgets w v (share_quiet ByXors u z a (only x.at) next)
+    from_one (Add u z) f same = telling_quiet h t y kin (shared_from BySums u z a (only x.at) next).gadgets w v (all_quiet (shared_from BySums u z a (only x.at) next).gadgets (share_ordinary BySums u z a (only x.at) next))
+    from_one (Xor u z) f same = telling_quiet h t y kin (shared_from ByXors u z a (only x.at) next).gadgets w v (all_quiet (shared_from ByXors u z a (only x.at) next).gadgets (share_ordinary ByXors u z a (only x.at) next))
 
   -- copies
   module _ (set : HostSet) (over : IsOver hosts (Rep set)) (x : SlotParts) (next : List ℕ) (w v : Hosts) (c d : ℕ) (moved : AreMoved (Rep set) x next w v c d) where
@@ -212,12 +125,12 @@ module _ (h : ℕ) (t y : Tape) (kin : AreKin h t y) (inputs others : ℕ → Li
     from_copies (Commit u z) f same = no_back_end f
     from_copies (Add u z) f same =
         let gs : List Gadget = (adopted_shares u z x.at next).gadgets in
-        let quiet : AreQuiet gs = (tt, tt) in
-        telling_quiet h t y kin gs w v quiet
+        let ordinary : AreOrdinary gs = (tt, tt) in
+        telling_quiet h t y kin gs w v (all_quiet gs ordinary)
     from_copies (Xor u z) f same =
         let gs : List Gadget = (adopted_shares u z x.at next).gadgets in
-        let quiet : AreQuiet gs = (tt, tt) in
-        telling_quiet h t y kin gs w v quiet
+        let ordinary : AreOrdinary gs = (tt, tt) in
+        telling_quiet h t y kin gs w v (all_quiet gs ordinary)
 
   second_low : (a b : HostId) → a.0 ≢ b.0 → (next : List ℕ) (r : ℕ) → r < slice_index next b.0 → r < slice_index (taken a 2 next) b.0
   second_low a b apart next r lt = subst (λ z. r < z) (sym (taken_other a 2 next b.0 (λ e. apart (sym e)))) lt
@@ -239,7 +152,7 @@ module _ (h : ℕ) (t y : Tape) (kin : AreKin h t y) (inputs others : ℕ → Li
         (λ i. same (of_pair set a b (in_order a b over.ordered) j h i))
     from_sums (Commit u z) f j same = no_back_end f
     from_sums (Add u z) f j same = λ both tidy hides. tt
-    from_sums (Xor u z) f j same = telling_quiet h t y kin (to_xor_made u z x.at next).gadgets w v (to_xor_quiet u z x.at next)
+    from_sums (Xor u z) f j same = telling_quiet h t y kin (to_xor_made u z x.at next).gadgets w v (all_quiet (to_xor_made u z x.at next).gadgets (to_xor_ordinary u z x.at next))
 
   -- exclusive or
   module _ (a b : HostId) (over : IsOver hosts (Xor a b)) (x : SlotParts) (next : List ℕ) (w v : Hosts) (c d : ℕ) (moved : AreMoved (Xor a b) x next w v c d) where

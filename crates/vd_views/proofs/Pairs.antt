@@ -18,9 +18,8 @@ use Rattle.vd_backend_sharing.specs.declared.shares.Shares.{Shares}
 use Rattle.vd_backend_sharing.specs.Sharings.{join, joined}
 use Rattle.vd_backend_sharing.specs.PairCalls.{opened_by, shown_at, shown_to_both}
 use Rattle.vd_views.specs.Hiding.{opened}
-use Rattle.vd_views.specs.Sides.{AreKin, Telling}
+use Rattle.vd_views.specs.Sides.{AreKin, Telling, Each, IsQuiet}
 use Rattle.vd_views.proofs.Sides.{telling_then, telling_quiet}
-use Rattle.vd_views.proofs.ViewsBackendsCalls.{AreQuiet}
 use Rattle.vd_views.proofs.Clear.{msg_other}
 
 opened_joined : (s : Sharing) (p q : ℕ) → opened s p q ≡ joined s p q
@@ -58,7 +57,7 @@ module _ (h : ℕ) (t y : Tape) (kin : AreKin h t y) (s : Sharing) (a b : HostId
       ∙ e
 
   -- both open their parts, and then nothing is told
-  pub both_open : (r q : Reg) (gs : List Gadget) → x.second.0 ≢ r.0 → AreQuiet gs → (w v : Hosts) → HaveWord s a b x c w → HaveWord s a b x d v → ((a.0 ≡ h) ⊎ (b.0 ≡ h) → c ≡ d)
+  pub both_open : (r q : Reg) (gs : List Gadget) → x.second.0 ≢ r.0 → Each IsQuiet gs → (w v : Hosts) → HaveWord s a b x c w → HaveWord s a b x d v → ((a.0 ≡ h) ⊎ (b.0 ≡ h) → c ≡ d)
       → Telling h t y (Opens s a x.first b x.second r ∷ Opens s b x.second a x.first q ∷ gs) w v
   both_open r q gs n quiet w v e f same =
       let w1 : Hosts = after_msg a.0 (x.first ∷ []) b.0 (r ∷ []) w in

@@ -3,15 +3,8 @@ use Rattle.std.proofs.Common.{◌≡◌, ℕ, zero, suc, List, [], ◌∷◌, �
 use Rattle.vd_execution.specs.Gadgets.{Pairing, Gadget, Alone, Tells, Shares, BothShare, Opens, Masked, Paired}
 use Rattle.vd_execution.specs.Plans.{Plan, Ends, Then, Branch, Loop}
 use Rattle.vd_split.specs.Joint.{acts_then, and_then}
+use Rattle.vd_views.specs.Sides.{Each}
 use Rattle.vd_views.specs.ReadOff.{alone_in, applied_in, masked_in, seen, IsReadOff, GadgetIsReadOff, front, PlanIsReadOff}
-
-abbrev pub Each : (Gadget → Type 0) → List Gadget → Type 0
-Each P [] = Unit {0}
-Each P (x ∷ xs) = P x × Each P xs
-
-pub each_append : (P : Gadget → Type 0) (xs ys : List Gadget) → Each P xs → Each P ys → Each P (xs ++ ys)
-each_append P [] ys a b = b
-each_append P (x ∷ xs) ys a b = (a.0, each_append P xs ys a.1 b)
 
 -- gadgets in a row, in which pairs are read off
 abbrev pub AreReadOff : List Gadget → Type 0

@@ -9,7 +9,7 @@ use Rattle.vd_execution.proofs.Front.{gadget_sound}
 use Rattle.vd_views.specs.Hiding.{AlongGadgets, GadgetHides, GadgetKnows, GadgetsHide, GadgetsKnow}
 use Rattle.vd_views.proofs.Hiding.{gadget_alike, run_append}
 use Rattle.vd_views.proofs.Counts.{acts_count}
-use Rattle.vd_views.specs.Sides.{AreKin, Both, after, Telling, Each, IsPlain, IsQuiet}
+use Rattle.vd_views.specs.Sides.{AreKin, Both, after, Telling, Each, IsQuiet}
 
 -- the state after gadgets is that after their acts
 pub after_acts : (t : Tape) (gs : List Gadget) (w : Hosts) → after t gs w ≡ run_acts t (acts_of_gadgets gs) w
@@ -27,19 +27,6 @@ each_append P (x ∷ xs) ys a b = (a.0, each_append P xs ys a.1 b)
 tidy_split : (xs ys : List Gadget) → GadgetsAreTidy (xs ++ ys) → GadgetsAreTidy xs × GadgetsAreTidy ys
 tidy_split [] ys a = (tt, a)
 tidy_split (x ∷ xs) ys a = let rest = tidy_split xs ys a.1 in ((a.0, rest.0), rest.1)
-
-quiet_plain : (g : Gadget) → IsQuiet g → IsPlain g
-quiet_plain (Alone h a) q = q
-quiet_plain (Tells a said b heard) q = tt
-quiet_plain (Shares a r b heard) q = tt
-quiet_plain (BothShare a r heard b p heard_b) q = tt
-quiet_plain (Opens sharing a x b y heard) q = tt
-quiet_plain (Masked sharing m n) q = tt
-quiet_plain (Paired p r) q = tt
-
-pub all_plain : (gs : List Gadget) → Each IsQuiet gs → Each IsPlain gs
-all_plain [] e = tt
-all_plain (g ∷ gs) e = (quiet_plain g e.0, all_plain gs e.1)
 
 module _ (t y : Tape) (P : Gadget → Hosts → Hosts → Type 0) where
   along_split : (xs ys : List Gadget) (w v : Hosts) → AlongGadgets P t y (xs ++ ys) w v → AlongGadgets P t y xs w v × AlongGadgets P t y ys (after t xs w) (after y xs v)

@@ -28,7 +28,7 @@ use Rattle.vd_convert.specs.Convert.{pairing, drawn, finishing, finished, to_add
 use Rattle.vd_views.specs.Hiding.{next_item, converted, pair_word}
 use Rattle.vd_views.specs.Sides.{AreKin, after, Telling}
 use Rattle.vd_views.proofs.Sides.{after_acts, both_step, telling_quiet, telling_on}
-use Rattle.vd_views.proofs.ViewsBackendsCalls.{gates_quiet}
+use Rattle.vd_views.proofs.Ordinary.{all_quiet, gates_ordinary}
 use Rattle.vd_views.proofs.Pairs.{HaveWord, both_open}
 
 module _ (a b : HostId) (apart : a.0 ≢ b.0) (next : List ℕ) (x : Places) where
@@ -165,7 +165,7 @@ module _ (a b : HostId) (apart : a.0 ≢ b.0) (next : List ℕ) (x : Places) whe
         let same_mark : l ≡ slice_index rest.next b.0 = taken_other a 3 rest.next b.0 (λ e. apart (sym e)) in (
           tt,
           telling_on h t y kin rest.gadgets end.gadgets w1 v1 one.reached more.reached one.runs more.runs
-              (telling_quiet h t y kin rest.gadgets w1 v1 (gates_quiet a b (gates_of op.Sub) _ pair.next))
+              (telling_quiet h t y kin rest.gadgets w1 v1 (all_quiet rest.gadgets (gates_ordinary a b (gates_of op.Sub) _ pair.next)))
               (both_open h t y kin ByXors a b apart (shares_of rest.given) (applied binary.Sub (converted first second w) (pair_word first second t w)) (applied binary.Sub (converted first second v) (pair_word first second y v))
               (register l) (register k) (finishing a b (shares_of rest.given) pair.given.0 k l) (λ e. clash (subst (λ z. (shares_of rest.given).second.0 < z) (sym same_mark) one.low) e) (tt, (tt, (tt, tt)))
               one.reached more.reached one.word more.word hides.0)

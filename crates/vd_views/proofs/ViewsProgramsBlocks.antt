@@ -41,7 +41,7 @@ use Rattle.vd_noninter_protocols.proofs.Front.{below, runs_each, part_is}
 use Rattle.vd_views.specs.Sides.{AreKin, Both, after, Telling}
 use Rattle.vd_views.proofs.Sides.{both_all, telling_quiet, telling_on}
 use Rattle.vd_views.proofs.ViewsBackendsPlans.{idle_hides}
-use Rattle.vd_views.proofs.ViewsBackendsCalls.{keep_quiet, renew_quiet, output_quiet, cells_quiet, put_quiet}
+use Rattle.vd_views.proofs.Ordinary.{all_quiet, keep_ordinary, renew_ordinary, output_ordinary, cells_ordinary, put_ordinary}
 use Rattle.vd_views.specs.Hides.{Hides}
 use Rattle.vd_views.proofs.ViewsProgramsHiding.{idle, hides_behind}
 use Rattle.vd_views.proofs.Compose.{acts_on, acts_tidy, nothing_along}
@@ -557,7 +557,7 @@ module _ (h : HostId) (few : h.0 < 8) (two : h.0 < 2) (t u : Tape) (kin : AreKin
       acts_concluded h.0 two t u kin inputs others (moved.acts ++ kept.acts) w v (heard_in_order (heards rest) turn c1 ++ xs) (heard_in_order (heards rest) turn d1 ++ ys) alone st.both some
       (telling_on h.0 t u kin moved.acts kept.acts w v (after t moved.acts w) (after u moved.acts v) refl refl
       (word_tells h few t u kin inputs others hosts protocols laws laws' over free o e w v c d st.first st.second y a (below (length protocols) a (and_left (is_below (length protocols) a) (is_below (length protocols) y) here)) sees_y fit.placed.1 off.0)
-      (telling_quiet h.0 t u kin kept.acts (after t moved.acts w) (after u moved.acts v) (keep_quiet (proto a.0) moved.given.at moved.next))) off.1)
+      (telling_quiet h.0 t u kin kept.acts (after t moved.acts w) (after u moved.acts v) (all_quiet kept.acts (keep_ordinary (proto a.0) moved.given.at moved.next)))) off.1)
   follows (NewArray a size rest) o k has fit e w v c d turn is small st static hides xs ys words =
       let made = (suite_calls hosts).cells (proto a.0) size e.next in
       let c1 = with_array a (replicate size 0) c in
@@ -578,7 +578,7 @@ module _ (h : HostId) (few : h.0 < 8) (two : h.0 < 2) (t u : Tape) (kin : AreKin
       w v c d c1 d1 turn is small st a1 a2 static hides xs ys
       (λ alone some.
       acts_concluded h.0 two t u kin inputs others made.acts w v (heard_in_order (heards rest) turn c1 ++ xs) (heard_in_order (heards rest) turn d1 ++ ys) alone st.both some
-      (telling_quiet h.0 t u kin made.acts w v (cells_quiet (proto a.0) size e.next)) words)
+      (telling_quiet h.0 t u kin made.acts w v (all_quiet made.acts (cells_ordinary (proto a.0) size e.next))) words)
   follows (Store a y rest) o k has fit e w v c d turn is small st static hides xs ys words =
       let here = and_left (is_below (length protocols) a && is_below (length protocols) y) (low_block rest) fit.low in
       let seen_here = and_left _ _ fit.seen in
@@ -606,7 +606,7 @@ module _ (h : HostId) (few : h.0 < 8) (two : h.0 < 2) (t u : Tape) (kin : AreKin
       acts_concluded h.0 two t u kin inputs others (moved.acts ++ acts) w v (heard_in_order (heards rest) turn c1 ++ xs) (heard_in_order (heards rest) turn d1 ++ ys) alone st.both some
       (telling_on h.0 t u kin moved.acts acts w v (after t moved.acts w) (after u moved.acts v) refl refl
       (word_tells h few t u kin inputs others hosts protocols laws laws' over free o e w v c d st.first st.second y a (below (length protocols) a (and_left (is_below (length protocols) a) (is_below (length protocols) y) here)) (and_right _ _ seen_here) fit.placed.1 off.0)
-      (telling_quiet h.0 t u kin acts (after t moved.acts w) (after u moved.acts v) (renew_quiet (proto a.0) (part m s proto e.held a.0).at moved.given.at))) off.1)
+      (telling_quiet h.0 t u kin acts (after t moved.acts w) (after u moved.acts v) (all_quiet acts (renew_ordinary (proto a.0) (part m s proto e.held a.0).at moved.given.at)))) off.1)
   follows (Put a i y rest) o k has fit e w v c d turn is small st static hides xs ys words =
       let here = and_left _ _ fit.low in
       let below_a = below (length protocols) a (and_left _ _ (and_left _ _ here)) in
@@ -651,7 +651,7 @@ module _ (h : HostId) (few : h.0 < 8) (two : h.0 < 2) (t u : Tape) (kin : AreKin
       (telling_on h.0 t u kin index.acts moved.acts w v b1.reached b2.reached (same_run t inputs index.acts w ∙ b1.leads.runs) (same_run u others index.acts v ∙ b2.leads.runs)
       (index_tells h few t u kin inputs others hosts protocols laws laws' over free o e w v c d st.first st.second a i below_a sees_i fit.placed.2 first.0)
       (word_tells h few t u kin inputs others hosts protocols laws laws' over free o (record { next = index.next; held = e.held; loop = e.loop }) b1.reached b2.reached c d t1 t2 y a below_a sees_y fit.placed.1 off.0))
-      (telling_quiet h.0 t u kin acts (after t (index.acts ++ moved.acts) w) (after u (index.acts ++ moved.acts) v) (put_quiet (proto a.0) (part m s proto e.held a.0) index.given moved.given.at))) off.1)
+      (telling_quiet h.0 t u kin acts (after t (index.acts ++ moved.acts) w) (after u (index.acts ++ moved.acts) v) (all_quiet acts (put_ordinary (proto a.0) (part m s proto e.held a.0) index.given moved.given.at)))) off.1)
   follows (Output y g offset rest) o k has fit e w v c d turn is small st static hides xs ys words =
       let sees_y = and_left _ _ fit.seen in
       let moved = (suite_calls hosts).move (proto y.0) (Local g) (part m s proto e.held y.0) e.next in
@@ -682,7 +682,7 @@ module _ (h : HostId) (few : h.0 < 8) (two : h.0 < 2) (t u : Tape) (kin : AreKin
       (λ same own.
       same_alone h few t u kin inputs others hosts protocols laws laws' over free y (part m s proto e.held y.0) w v (word_at c y) (word_at d y) same (st.first.stands Binding y.0 sees_y) (st.second.stands Binding y.0 sees_y)
       (when_both (same_host h g) (comes_alone protocols h y) (eq-eqb h.0 g.0 own) off.0)))
-      (telling_quiet h.0 t u kin acts (after t moved.acts w) (after u moved.acts v) (output_quiet g moved.given.at))) off.1)
+      (telling_quiet h.0 t u kin acts (after t moved.acts w) (after u moved.acts v) (all_quiet acts (output_ordinary g moved.given.at)))) off.1)
   follows (If x tb eb offset rest) o k has fit e w v c d turn is small st static hides xs ys words =
       let seen_here = and_left _ _ fit.seen in
       let row1 = row_front k (slots tb ++ slots eb) (slots rest) fit.row in

@@ -33,7 +33,7 @@ use Rattle.vd_noninter_protocols.specs.Hearing.{stands, comes, comes_alone, inde
 use Rattle.vd_noninter_protocols.proofs.Front.{kept_at, in_clear}
 use Rattle.vd_views.specs.Sides.{AreKin, after, Telling, Each as EachOf, HasClear}
 use Rattle.vd_views.proofs.Sides.{telling_quiet, telling_on}
-use Rattle.vd_views.proofs.ViewsBackendsCalls.{literal_quiet, apply_quiet, keep_quiet, turn_quiet, input_quiet, get_quiet}
+use Rattle.vd_views.proofs.Ordinary.{all_quiet, literal_ordinary, apply_ordinary, keep_ordinary, turn_ordinary, input_ordinary, get_ordinary}
 use Rattle.vd_views.proofs.Moves.{move_tells}
 use Rattle.vd_views.proofs.Words.{RightAgrees}
 
@@ -239,8 +239,8 @@ module _ (h : HostId) (low : h.0 < 8) (t u : Tape) (kin : AreKin h.0 t u) (input
 
     pub right_tells : (x : SlotId) (right : Right) → x.0 < length protocols → right_sees right o ≡ true → RightPlaced m s proto (proto x.0) right → ((a i : SlotId) → right ≡ Get a i → a.0 < length protocols) → RightAgrees protocols h x right c d
         → Tells (right_made (suite_calls hosts) proto (proto x.0) right e).acts w v
-    right_tells x (Lit k) below sees placed known agrees = telling_quiet h.0 t u kin (right_made (suite_calls hosts) proto (proto x.0) (Lit k) e).acts w v (literal_quiet (proto x.0) k e.next)
-    right_tells x Turn below sees placed known agrees = telling_quiet h.0 t u kin (right_made (suite_calls hosts) proto (proto x.0) Turn e).acts w v (turn_quiet (proto x.0) e.loop e.next)
+    right_tells x (Lit k) below sees placed known agrees = telling_quiet h.0 t u kin (right_made (suite_calls hosts) proto (proto x.0) (Lit k) e).acts w v (all_quiet (right_made (suite_calls hosts) proto (proto x.0) (Lit k) e).acts (literal_ordinary (proto x.0) k e.next))
+    right_tells x Turn below sees placed known agrees = telling_quiet h.0 t u kin (right_made (suite_calls hosts) proto (proto x.0) Turn e).acts w v (all_quiet (right_made (suite_calls hosts) proto (proto x.0) Turn e).acts (turn_ordinary (proto x.0) e.loop e.next))
     right_tells x (Copy y) below sees placed known agrees = word_tells y x below sees placed agrees
     right_tells x (Apply op ys) below sees placed known agrees =
         let args = all_moved (suite_calls hosts) proto (proto x.0) e ys e.next in
@@ -248,8 +248,8 @@ module _ (h : HostId) (low : h.0 < 8) (t u : Tape) (kin : AreKin h.0 t u) (input
         telling_on h.0 t u kin args.acts made.acts w v (after t args.acts w) (after u args.acts v) refl refl
         (operands_tell x below e (word_at c) (word_at d) (Unchanging m s proto o e.held) (Unchanging n s' proto o e.held) ys e.next w v t1.ready t2.ready
         (movables m s proto laws over o e.next e.held w c t1 (proto x.0) ys sees placed.1) (movables n s' proto laws' over o e.next e.held v d t2 (proto x.0) ys sees placed.1) agrees)
-        (telling_quiet h.0 t u kin made.acts (after t args.acts w) (after u args.acts v) (apply_quiet (proto x.0) op (map (λ z. z.at) args.given) args.next))
-    right_tells x (Input k) below sees placed known agrees = telling_quiet h.0 t u kin (right_made (suite_calls hosts) proto (proto x.0) (Input k) e).acts w v (input_quiet k e.next)
+        (telling_quiet h.0 t u kin made.acts (after t args.acts w) (after u args.acts v) (all_quiet made.acts (apply_ordinary (proto x.0) op (map (λ z. z.at) args.given) args.next)))
+    right_tells x (Input k) below sees placed known agrees = telling_quiet h.0 t u kin (right_made (suite_calls hosts) proto (proto x.0) (Input k) e).acts w v (all_quiet (right_made (suite_calls hosts) proto (proto x.0) (Input k) e).acts (input_ordinary k e.next))
     right_tells x (Declassify y to) below sees placed known agrees = word_tells y x below sees placed agrees
     right_tells x (Endorse y to) below sees placed known agrees = word_tells y x below sees placed agrees
     right_tells x (Load a) below sees placed known agrees =
@@ -260,7 +260,7 @@ module _ (h : HostId) (low : h.0 < 8) (t u : Tape) (kin : AreKin h.0 t u) (input
         let b2 : Between n s' e.next v kept.acts kept.next = between_of n s' e.next nothing kept v (proto a.0) (Word (word_at d a)) g2 in
         let more = (suite_calls hosts).move (proto a.0) (proto x.0) kept.given kept.next in
         telling_on h.0 t u kin kept.acts more.acts w v g1.reached g2.reached (same_run t inputs kept.acts w ∙ g1.leads.runs) (same_run u others kept.acts v ∙ g2.leads.runs)
-        (telling_quiet h.0 t u kin kept.acts w v (keep_quiet (proto a.0) (held a).at e.next))
+        (telling_quiet h.0 t u kin kept.acts w v (all_quiet kept.acts (keep_ordinary (proto a.0) (held a).at e.next)))
         (λ both tidy hides.
         move_tells h.0 t u kin inputs others hosts (proto a.0) (proto x.0) (free a.0) (free x.0) (over a.0) placed.1 kept.given kept.next g1.reached g2.reached (word_at c a) (word_at d a)
         (record {
@@ -284,7 +284,7 @@ module _ (h : HostId) (low : h.0 < 8) (t u : Tape) (kin : AreKin h.0 t u) (input
         let more = (suite_calls hosts).move (proto a.0) (proto x.0) got.given got.next in
         telling_on h.0 t u kin (index.acts ++ got.acts) more.acts w v g1.reached g2.reached (same_run t inputs (index.acts ++ got.acts) w ∙ g1.leads.runs) (same_run u others (index.acts ++ got.acts) v ∙ g2.leads.runs)
         (telling_on h.0 t u kin index.acts got.acts w v (after t index.acts w) (after u index.acts v) refl refl (index_tells a i (known a i refl) sees_i placed.2 agrees.0)
-        (telling_quiet h.0 t u kin got.acts (after t index.acts w) (after u index.acts v) (get_quiet (proto a.0) (held a) index.given index.next)))
+        (telling_quiet h.0 t u kin got.acts (after t index.acts w) (after u index.acts v) (all_quiet got.acts (get_ordinary (proto a.0) (held a) index.given index.next))))
         (λ both tidy hides.
         move_tells h.0 t u kin inputs others hosts (proto a.0) (proto x.0) (free a.0) (free x.0) (over a.0) placed.1 got.given got.next g1.reached g2.reached p q
         (record {
