@@ -13,9 +13,10 @@ use vd_cmd_labels::least_labels;
 use vd_cmd_plan::{Answer, Labelled, Status};
 use vd_constraints::Labels;
 use vd_core::Program;
+use vd_cost_network_ascent::Sweeps;
 use vd_report::choice_text;
 use vd_search::SearchFault;
-use vd_search_stages::{Assignment, Sweeps, select};
+use vd_search_stages::{Assignment, select};
 use vd_search_tree::Certificate;
 use vd_space_api::Space;
 

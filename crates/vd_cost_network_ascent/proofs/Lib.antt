@@ -2,3 +2,4 @@ mod Entering
 mod Making
 mod Taken
 mod Naming
+mod Passed

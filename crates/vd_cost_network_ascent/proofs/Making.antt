@@ -9,7 +9,8 @@ use Rattle.vd_space.specs.declared.problem.Problem.{Problem}
 use Rattle.vd_space.specs.Validity.{protocols}
 use Rattle.vd_space.specs.Arcs.{arcs}
 use Rattle.vd_cost_network_dual.specs.Rows.{row_in, row_of}
-use Rattle.vd_cost_network_ascent.specs.Shifts.{Adds, AreArcShifts, AreShiftsOf, Puts, PutsRow, arc_shifts, net_shifts, row_shifts, shift_to}
+use Rattle.vd_space.specs.Shifts.{AreArcShifts, AreShiftsOf}
+use Rattle.vd_cost_network_ascent.specs.Shifts.{Adds, Puts, PutsRow, arc_shifts, net_shifts, row_shifts, shift_to}
 
 -- a place more, where the first of at least so many places are reached
 pub next_place : (at place places : ℕ) (before between after : List Shift) → place < places → PutsRow at place before between → Puts at place between after → PutsRow at places before after

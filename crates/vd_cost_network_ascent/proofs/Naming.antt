@@ -1,8 +1,7 @@
 -- Shifts of so many uses and protocols are those of a problem that has so many.
 use Rattle.std.proofs.Common.{◌≡◌, ℕ, Option, Result, List, length, subst}
 use Rattle.std.specs.Prelude.{IfOk, IfSome}
-use Rattle.vd_cost_network_ascent.specs.Shifts.{AreShiftsOf}
-use Rattle.vd_cost_network_ascent.specs.SpaceAscentShifts.{AreUseShifts}
+use Rattle.vd_space.specs.Shifts.{AreShiftsOf, AreUseShifts}
 use Rattle.vd_search_tree.specs.declared.shift.Shift.{Shift}
 use Rattle.vd_space.specs.declared.problem.Problem.{Problem}
 use Rattle.vd_space.specs.Validity.{protocols}

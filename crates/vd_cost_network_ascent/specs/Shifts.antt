@@ -1,30 +1,10 @@
--- What shifts of arcs a certificate can have.
-use Rattle.std.specs.Prelude.{◌≡◌, ℕ, zero, suc, ◌<◌, ◌≤◌, Bool, true, false, List, [], ◌∷◌, ◌++◌, length, slice_index_or, ℤ, pos, negsuc, Vec}
-use Rattle.std.specs.List.{AllByRecursion, flat_map, range_with_len}
-use Rattle.vd_base.specs.Limits.{most_certificate_shifts}
+-- The shifts of arcs that come to amounts.
+use Rattle.std.specs.Prelude.{◌≡◌, ℕ, zero, suc, ◌<◌, ◌≤◌, Bool, true, false, List, [], ◌∷◌, ◌++◌, slice_index_or, ℤ, pos, negsuc, Vec}
+use Rattle.std.specs.List.{flat_map, range_with_len}
 use Rattle.vd_cost_network_dual.specs.declared.nets.Nets.{Nets}
 use Rattle.vd_cost_network_dual.specs.Rows.{row_of}
-use Rattle.vd_space.specs.Arcs.{arcs}
 use Rattle.vd_search_tree.specs.declared.shift.Shift.{Shift}
-use Rattle.vd_space.specs.declared.problem.Problem.{Problem}
-use Rattle.vd_space.specs.Validity.{protocols}
-
--- one of so many arcs, a side and one of so many protocols, and some amount; all of 32 bits
-pub record IsArcShift (count choices : ℕ) (shift : Shift) : Type 0 where
-  pub at : shift.at < count
-  pub number : shift.at ≤ 4294967295
-  pub side : shift.side ≤ 1
-  pub proto : shift.proto < choices
-  pub some : 1 ≤ shift.amount
-  pub amount : shift.amount ≤ 4294967295
-
--- few enough for a certificate
-pub record AreShiftsOf (count choices : ℕ) (shifts : List Shift) : Type 0 where
-  pub few : length shifts ≤ most_certificate_shifts
-  pub each : AllByRecursion (IsArcShift count choices) shifts
-
-abbrev pub AreArcShifts : Problem → List Shift → Type 0
-AreArcShifts problem shifts = AreShiftsOf (length (arcs problem)) (length (protocols problem)) shifts
+use Rattle.vd_space.specs.Shifts.{AreShiftsOf}
 
 -- ---- the shifts that come to amounts: one for each that is not 0
 

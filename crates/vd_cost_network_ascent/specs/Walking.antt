@@ -8,7 +8,7 @@ use Rattle.vd_space_prefix.specs.Tables.{AreListed}
 use Rattle.vd_cost_network_ascent.specs.declared.refutation.Refutation.{Refutation}
 use Rattle.vd_cost_network_ascent.specs.declared.walk.Tested.{Tested}
 use Rattle.vd_cost_network_ascent.specs.declared.walk.Tested.TheVariants.{Open, Refuted}
-use Rattle.vd_cost_network_ascent.specs.Shifts.{AreArcShifts}
+use Rattle.vd_space.specs.Shifts.{AreArcShifts}
 
 -- a prefix of a problem's lists that is not empty, and some shifts of its arcs
 pub record IsRefutation (problem : Problem) (found : Refutation) : Type 0 where

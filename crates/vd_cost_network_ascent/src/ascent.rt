@@ -1,7 +1,7 @@
 //! The ascent over the points and arcs of a problem.
 
 ghost use Rattle.std.specs.Prelude.{◌≡◌, IfOk, IfSome};
-ghost use Rattle.vd_cost_network_ascent.specs.Shifts.{AreArcShifts};
+ghost use Rattle.vd_space.specs.Shifts.{AreArcShifts};
 ghost use Rattle.vd_cost_network_prefix.specs.Tables.{AreNetworkTables};
 ghost use Rattle.vd_space.specs.Labelled.{IsLabelled};
 ghost use Rattle.vd_space.specs.Validity.{protocols as protocols_of};

@@ -27,7 +27,7 @@ use Rattle.vd_space.specs.Network.{network_high, network_tree}
 use Rattle.vd_space.proofs.Front.{network_high_whole, network_tree_bounded}
 use Rattle.vd_cost_network_prefix.specs.declared.made.NetworkTables.{NetworkTables}
 use Rattle.vd_cost_network_prefix.specs.Tables.{AreNetworkTables}
-use Rattle.vd_cost_network_ascent.specs.Shifts.{AreArcShifts, IsArcShift}
+use Rattle.vd_space.specs.Shifts.{AreArcShifts, IsShiftOf}
 use Rattle.vd_search_stages.specs.Confirming.{confirmed}
 use Rattle.vd_search_stages.specs.Network.{CanUseArcs, NamesArc}
 use Rattle.vd_search_stages.specs.Selecting.{Selects, refuted}
@@ -131,7 +131,7 @@ empty problem p t budget marks c same_problem is holds answers =
 
 -- ---- better shifts
 
-names : (problem : Problem) (shift : Shift) → length (protocols problem) ≤ 42 → IsArcShift (length (arcs problem)) (length (protocols problem)) shift → NamesArc problem shift
+names : (problem : Problem) (shift : Shift) → length (protocols problem) ≤ 42 → IsShiftOf (length (arcs problem)) (length (protocols problem)) shift → NamesArc problem shift
 names problem shift places is = record {
   at = is.at;
   proto = is.proto;
@@ -144,7 +144,7 @@ names problem shift places is = record {
   };
 }
 
-all_named : (problem : Problem) (shifts : List Shift) → length (protocols problem) ≤ 42 → AllByRecursion (IsArcShift (length (arcs problem)) (length (protocols problem))) shifts → AllByRecursion (NamesArc problem) shifts
+all_named : (problem : Problem) (shifts : List Shift) → length (protocols problem) ≤ 42 → AllByRecursion (IsShiftOf (length (arcs problem)) (length (protocols problem))) shifts → AllByRecursion (NamesArc problem) shifts
 all_named problem [] places all = tt
 all_named problem (shift ∷ shifts) places all = (names problem shift places all.0, all_named problem shifts places all.1)
 

@@ -8,7 +8,6 @@ mod Answered
 mod ByArcs
 mod Floors
 mod Untied
-mod Passed
 mod Spent
 mod Assigned
 mod Optimal

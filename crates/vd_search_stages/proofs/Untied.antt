@@ -1,8 +1,6 @@
 -- What a search by arcs answers on a path that is the problem's, and which prefixes begin no list of so little cost.
-use Rattle.std.proofs.Common.{◌≡◌, ℕ, suc, List, [], ◌∷◌, ◌++◌, Result, Ok, Err, sym, subst, pos}
+use Rattle.std.proofs.Common.{◌≡◌, ℕ, suc, List, sym, subst, pos}
 use Rattle.std.specs.List.{All}
-use Rattle.std.specs.Prelude.{IfOk, OnOk}
-use Rattle.std.proofs.lemmas.List.Elements.{All-push}
 use Rattle.vd_search_tree.specs.Trees.{AtLeast}
 use Rattle.vd_search.specs.Answers.{Answers}
 use Rattle.vd_search.specs.declared.answers.Answer.{Answer}
@@ -10,7 +8,8 @@ use Rattle.vd_space.specs.declared.problem.Problem.{Problem}
 use Rattle.vd_space.specs.Spaces.{IsProblem}
 use Rattle.vd_space.specs.Network.{network_tree}
 use Rattle.vd_cost_network_prefix.specs.declared.made.NetworkTables.{NetworkTables}
-use Rattle.vd_search_stages.specs.Network.{CanUseArcs, IsBeyond, Tells}
+use Rattle.vd_cost_network_bound.specs.Ascents.{IsBeyond}
+use Rattle.vd_search_stages.specs.Network.{CanUseArcs, Tells}
 use Rattle.vd_search_stages.specs.Selecting.{Selects}
 use Rattle.vd_search_stages.specs.declared.selecting.Selection.{Selection}
 
@@ -19,11 +18,6 @@ pub selected : (problem p : Problem) (tables t : NetworkTables) (budget : ℕ) (
     → Answers (network_tree p t.shifts) budget found → Tells tables found selection → Selects problem budget selection
 selected problem p tables t budget found selection same_problem same_tables holds can answers tells =
     tells problem budget holds can (subst (λ (x : NetworkTables). Answers (network_tree problem x.shifts) budget found) same_tables (subst (λ (q : Problem). Answers (network_tree q t.shifts) budget found) same_problem answers))
-
--- one prefix more
-pub one_more : {E : Type 0} (P : List ℕ → Type 0) (old new : List (List ℕ)) (prefix : List ℕ) (result : Result (Unit {0}) E) → All P old → P prefix → OnOk result (new ≡ old ++ prefix ∷ []) → IfOk result (λ _. All P new)
-one_more P old new prefix (Ok done) all here longer = subst (All P) (sym longer) (All-push P old prefix all here)
-one_more P old new prefix (Err cause) all here longer = tt
 
 -- what is beyond the cost is so in the tree of any shifts
 pub all_beyond : (problem p : Problem) (t : NetworkTables) (most : ℕ) (passed : List (List ℕ)) → p ≡ problem → All (IsBeyond problem most) passed → All (AtLeast (network_tree p t.shifts) (pos (suc most))) passed

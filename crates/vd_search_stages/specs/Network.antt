@@ -1,5 +1,5 @@
 -- What a search by arcs is made with.
-use Rattle.std.specs.Prelude.{◌≡◌, ℕ, suc, ◌≤◌, ◌<◌, List, [], length, pos}
+use Rattle.std.specs.Prelude.{◌≡◌, ℕ, ◌≤◌, ◌<◌, List, [], length}
 use Rattle.std.specs.List.{AllByRecursion}
 use Rattle.vd_base.specs.Limits.{most_certificate_shifts}
 use Rattle.vd_search_tree.specs.Texts.{IsShift}
@@ -7,10 +7,9 @@ use Rattle.vd_space.specs.Network.{network_tree}
 use Rattle.vd_space.specs.Arcs.{arcs}
 use Rattle.vd_cost_network_prefix.specs.declared.made.NetworkTables.{NetworkTables}
 use Rattle.vd_cost_network_prefix.specs.Tables.{AreNetworkTables}
-use Rattle.vd_cost_network_ascent.specs.Shifts.{AreArcShifts}
+use Rattle.vd_space.specs.Shifts.{AreArcShifts}
 use Rattle.vd_space_prefix.specs.declared.tables.Tables.{Tables}
 use Rattle.vd_space_prefix.specs.Tables.{AreTables}
-use Rattle.vd_search_tree.specs.Trees.{AtLeast}
 use Rattle.vd_search_tree.specs.declared.shift.Shift.{Shift}
 use Rattle.vd_search.specs.Answers.{Answers}
 use Rattle.vd_search.specs.declared.answers.Answer.{Answer}
@@ -49,7 +48,3 @@ abbrev pub Tells : NetworkTables → Answer → Selection → Type 0
 Tells by_arcs answer selection =
     (problem : Problem) (budget : ℕ) → IsProblem problem → CanUseArcs problem by_arcs
     → Answers (network_tree problem by_arcs.shifts) budget answer → Selects problem budget selection
-
--- no list of at most that cost begins so, under whatever shifts
-abbrev pub IsBeyond : Problem → ℕ → List ℕ → Type 0
-IsBeyond problem most prefix = (shifts : List Shift) → AtLeast (network_tree problem shifts) (pos (suc most)) prefix

@@ -11,14 +11,13 @@ ghost use Rattle.vd_search_stages.specs.Stages.{CanSelect, Tries};
 ghost use Rattle.vd_search.specs.declared.writing.SearchFault.TheVariants as search_fault;
 ghost use Rattle.vd_space.specs.WellFormed.{IsWellFormed};
 
-use crate::ascents::{ArcAscent, Ascents};
 use crate::selecting::{Selection, refuted};
 use crate::stages::{network_budget, try_some};
 use crate::trying::Tried;
 use crate::walking::select_by_walk;
 use std::alloc::{AllocError, Global};
 use vd_base::Items;
-use vd_cost_network_ascent::Ascent;
+use vd_cost_network_bound::{ArcAscent, Ascents};
 use vd_cost_network_prefix::{NetworkPath, NetworkTables};
 use vd_cost_network_tables::network_tables;
 use vd_search::{Answer, SearchFault, search};
@@ -96,7 +95,7 @@ fn select_network<A: Ascents>(
     tables: &Tables,
     without: &NetworkTables,
     by_arcs: &NetworkTables,
-    ascent: Ascent,
+    ascent: A::Ascent,
     budget: u32,
 ) -> Result<Option<Selection>, SearchFault>
     requires tables { CanSelectByArcs problem.now tables.now by_arcs.now }
@@ -159,7 +158,7 @@ fn try_network<A: Ascents>(
     better: &Option<Tables>,
     without: &NetworkTables,
     by_arcs: &NetworkTables,
-    ascent: Ascent,
+    ascent: A::Ascent,
     budget: u32,
 ) -> Result<Tried, SearchFault>
     requires better { IfSome better.now (CanSelect problem.now) }
@@ -208,7 +207,7 @@ fn try_ascent<A: Ascents>(
     problem: &Problem,
     better: &Option<Tables>,
     without: &NetworkTables,
-    found: ArcAscent,
+    found: ArcAscent<A::Ascent>,
     budget: u32,
 ) -> Result<Tried, SearchFault>
     requires better { IfSome better.now (CanSelect problem.now) }

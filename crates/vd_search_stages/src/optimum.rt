@@ -10,12 +10,12 @@ ghost use Rattle.vd_space.specs.Usual.{usual as usual_shifts};
 ghost use Rattle.vd_space.specs.Validity.{protocol};
 ghost use Rattle.vd_space.specs.WellFormed.{IsWellFormed};
 
-use crate::ascents::Ascents;
 use crate::selecting::Selection;
 use crate::so_far::is_bare;
 use crate::stages::select_places;
 use std::alloc::{AllocError, Global};
 use vd_base::{Items, Proto, protocol_at};
+use vd_cost_network_bound::Ascents;
 use vd_search::SearchFault;
 use vd_search_tree::Certificate;
 use vd_space::Problem;

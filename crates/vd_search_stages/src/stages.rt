@@ -14,11 +14,11 @@ ghost use Rattle.vd_space.specs.Spaces.{tree_of};
 ghost use Rattle.vd_space.specs.Usual.{usual as usual_shifts};
 ghost use Rattle.vd_space.specs.WellFormed.{IsWellFormed};
 
-use crate::ascents::Ascents;
 use crate::network::try_arcs;
 use crate::selecting::{Selection, select_by, usual_tables};
 use crate::trying::Tried;
 use std::alloc::{AllocError, Global};
+use vd_cost_network_bound::Ascents;
 use vd_search::SearchFault;
 use vd_search_tree::Prefixes;
 use vd_space::Problem;

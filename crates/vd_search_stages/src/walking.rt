@@ -4,18 +4,18 @@ ghost use Rattle.std.specs.Prelude.{◌≡◌, ◌≢◌, ◌<◌, IfNone, IfOk,
 ghost use Rattle.std.specs.List.{All};
 ghost use Rattle.vd_space.specs.Network.{network_tree};
 ghost use Rattle.vd_cost_network_prefix.specs.Tables.{AreNetworkTables};
-ghost use Rattle.vd_search_stages.specs.Network.{CanSelectByArcs, IsBeyond};
+ghost use Rattle.vd_cost_network_bound.specs.Ascents.{IsBeyond};
+ghost use Rattle.vd_search_stages.specs.Network.{CanSelectByArcs};
 ghost use Rattle.vd_search_stages.specs.Selecting.{Selects};
 ghost use Rattle.vd_search_stages.specs.Spending.{GivesOnly, IsOverByWalk};
 ghost use Rattle.vd_search.specs.declared.writing.SearchFault.TheVariants as search_fault;
 ghost use Rattle.vd_search.specs.Untied.{WhySpent};
 
-use crate::ascents::Ascents;
 use crate::network::{bound_of_all, network_selection};
 use crate::selecting::Selection;
 use std::alloc::Global;
 use vd_base::Items;
-use vd_cost_network_ascent::Ascent;
+use vd_cost_network_bound::Ascents;
 use vd_cost_network_prefix::{NetworkPath, NetworkTables};
 use vd_search::{SearchFault, search_untied};
 use vd_space::Problem;
@@ -60,7 +60,7 @@ fn select_at<A: Ascents>(
     without: &NetworkTables,
     by_arcs: &NetworkTables,
     path: NetworkPath,
-    ascent: Ascent,
+    ascent: A::Ascent,
     most: u32,
     budget: u32,
 ) -> Result<Option<Selection>, SearchFault>
@@ -88,7 +88,7 @@ pub(crate) fn select_by_walk<A: Ascents>(
     tables: &Tables,
     without: &NetworkTables,
     by_arcs: &NetworkTables,
-    ascent: Ascent,
+    ascent: A::Ascent,
     budget: u32,
 ) -> Result<Option<Selection>, SearchFault>
     requires tables { CanSelectByArcs problem.now tables.now by_arcs.now }

@@ -14,4 +14,5 @@ pub mod Cheapest
 pub mod Points
 pub mod Arcs
 pub mod Network
+pub mod Shifts
 pub mod Worked

@@ -2,7 +2,8 @@
 
 ghost use Rattle.std.specs.Prelude.{◌≡◌, ◌<◌, ◌≤◌, IfOk, IfSome, OnOk};
 ghost use Rattle.vd_cost_network_dual.specs.Rows.{row_of};
-ghost use Rattle.vd_cost_network_ascent.specs.Shifts.{Adds, AreShiftsOf, Puts, PutsRow, arc_shifts, row_shifts, shift_to, shifts_by};
+ghost use Rattle.vd_space.specs.Shifts.{AreShiftsOf};
+ghost use Rattle.vd_cost_network_ascent.specs.Shifts.{Adds, Puts, PutsRow, arc_shifts, row_shifts, shift_to, shifts_by};
 
 use std::alloc::{AllocError, Global};
 use vd_base::{Items, limits};

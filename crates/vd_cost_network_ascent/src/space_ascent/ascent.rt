@@ -1,7 +1,7 @@
 //! The ascent over the slots and uses of a problem.
 
 ghost use Rattle.std.specs.Prelude.{IfOk, IfSome};
-ghost use Rattle.vd_cost_network_ascent.specs.SpaceAscentShifts.{AreUseShifts};
+ghost use Rattle.vd_space.specs.Shifts.{AreUseShifts};
 ghost use Rattle.vd_space.specs.Labelled.{IsLabelled};
 ghost use Rattle.vd_space.specs.Sizes.{IsWithinLimits};
 ghost use Rattle.vd_space.specs.WellFormed.{AreProtocols};

@@ -1,5 +1,6 @@
 use Rattle.std.proofs.Common.{◌≡◌}
-use Rattle.vd_cost_network_ascent.specs.Shifts.{AreShiftsOf, net_shifts}
+use Rattle.vd_space.specs.Shifts.{AreShiftsOf}
+use Rattle.vd_cost_network_ascent.specs.Shifts.{net_shifts}
 use Rattle.vd_cost_network_dual.specs.Rows.{row_of}
 use Rattle.vd_cost_network_ascent.proofs.cost_network_shifts.made.shifts_of_few.Given as goal
 

@@ -1,8 +1,8 @@
 use Rattle.std.proofs.Common.{length, sym, ap, ◌∙◌, arith}
 use Rattle.std.proofs.lemmas.Int.{ints}
 use Rattle.vd_space.specs.Validity.{protocols}
-use Rattle.vd_search_stages.proofs.Passed.{all_among, beyond_by}
-use Rattle.vd_search_stages.proofs.passing.is_beyond.Goals as goal
+use Rattle.vd_cost_network_ascent.proofs.Passed.{all_among, beyond_by}
+use Rattle.vd_cost_network_ascent.proofs.passing.is_beyond.Goals as goal
 
 pub bound-requires-clause-prefix : goal.bound-requires-clause-prefix
 bound-requires-clause-prefix c =

@@ -1,34 +1,34 @@
-//! The ascents that find the shifts of the later searches.
+//! What finds the shifts under which bounds are great. Each ascent does so in its own way; a search goes by any.
 
 ghost use Rattle.std.specs.Prelude.{◌≡◌, ℕ, Option, List, ◌≤◌, IfOk, IfSome, length, option_map};
 ghost use Rattle.std.specs.List.{All};
-ghost use Rattle.vd_cost_network_ascent.specs.Shifts.{AreArcShifts};
 ghost use Rattle.vd_cost_network_prefix.specs.Tables.{AreNetworkTables};
-ghost use Rattle.vd_cost_network_ascent.specs.SpaceAscentShifts.{AreUseShifts};
 ghost use Rattle.vd_search_tree.specs.declared.shift.Shift.{Shift as Shifts};
-ghost use Rattle.vd_search_stages.specs.Network.{IsBeyond};
+ghost use Rattle.vd_cost_network_bound.specs.Ascents.{IsBeyond};
 ghost use Rattle.vd_space.specs.Labelled.{IsLabelled};
+ghost use Rattle.vd_space.specs.Shifts.{AreArcShifts, AreUseShifts};
 ghost use Rattle.vd_space.specs.Sizes.{IsWithinLimits};
 ghost use Rattle.vd_space.specs.declared.problem.Problem.{Problem as Problems};
 
-use crate::passing::walked;
 use std::alloc::{AllocError, Global};
 use vd_base::Items;
-use vd_cost_network_ascent::{Ascent, plain_shifts};
 use vd_cost_network_prefix::{NetworkPath, NetworkTables};
 use vd_search_tree::Shift;
 use vd_space::Problem;
 
 /// An ascent over the arcs of a problem, and the shifts that it came to.
 #[derive(Drop)]
-pub struct ArcAscent {
-    pub ascent: Ascent,
+pub struct ArcAscent<T> {
+    pub ascent: T,
     pub shifts: Items<Shift>,
 }
 
 /// What finds shifts under which the bounds of a problem are greater than under most others. A search goes by what it answers,
 /// whatever that is.
 pub trait Ascents {
+    /// An ascent over the arcs of a problem, from which a walk goes on.
+    type Ascent: Drop;
+
     /// Over the uses of a problem it comes to these shifts, or to none.
     ghost uses_give: { Self → Problems → Option (List Shifts) → Type 0 };
 
@@ -55,7 +55,7 @@ pub trait Ascents {
         alloc: Global,
         problem: &Problem,
         without: &NetworkTables,
-    ) -> Result<Option<ArcAscent>, AllocError>
+    ) -> Result<Option<ArcAscent<Self::Ascent>>, AllocError>
         requires { AreNetworkTables problem.now without.now }
         ensures gives { IfOk result (λ found. arcs_give self.now problem.now (option_map (λ a. a.shifts) found)) }
         ensures shifts { IfOk result (λ found. IfSome found (λ a. AreArcShifts problem.now a.shifts)) }
@@ -69,61 +69,11 @@ pub trait Ascents {
         problem: &Problem,
         without: &NetworkTables,
         path: NetworkPath,
-        ascent: Ascent,
+        ascent: Self::Ascent,
         most: u32,
     ) -> Result<Option<Items<Items<u32>>>, AllocError>
         requires without { AreNetworkTables problem.now without.now }
         requires path { path.problem.now ≡ problem.now }
         ensures gives { IfOk result (walks_give self.now problem.now most) }
         ensures beyond { IfOk result (λ found. IfSome found (All (IsBeyond problem.now most))) };
-}
-
-/// Ascents by sweeps over all uses and over all arcs.
-#[derive(Clone, Copy, PartialEq, Eq)]
-pub struct Sweeps;
-
-impl Ascents for Sweeps {
-    ghost uses_give = { λ sweeps problem found. IfSome found (AreUseShifts problem) };
-
-    ghost arcs_give = { λ sweeps problem found. IfSome found (AreArcShifts problem) };
-
-    ghost walks_give = { λ sweeps problem most found. IfSome found (All (IsBeyond problem most)) };
-
-    fn over_uses(
-        &self,
-        alloc: Global,
-        problem: &Problem,
-    ) -> Result<Option<Items<Shift>>, AllocError> {
-        plain_shifts(alloc, problem)
-    }
-
-    fn over_arcs(
-        &self,
-        alloc: Global,
-        problem: &Problem,
-        without: &NetworkTables,
-    ) -> Result<Option<ArcAscent>, AllocError> {
-        let Some(ascent) = Ascent::of(alloc, problem, without)? else {
-            return Ok(None);
-        };
-        let Some(shifts) = ascent.shifts(alloc, problem, without)? else {
-            return Ok(None);
-        };
-        if shifts.as_slice().len() == 0 {
-            return Ok(None);
-        }
-        Ok(Some(ArcAscent { ascent, shifts }))
-    }
-
-    fn over_prefixes(
-        &self,
-        alloc: Global,
-        problem: &Problem,
-        without: &NetworkTables,
-        path: NetworkPath,
-        ascent: Ascent,
-        most: u32,
-    ) -> Result<Option<Items<Items<u32>>>, AllocError> {
-        walked(alloc, problem, without, path, ascent, most)
-    }
 }

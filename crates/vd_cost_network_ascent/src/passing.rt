@@ -3,14 +3,16 @@
 ghost use Rattle.std.specs.Prelude.{◌≡◌, ◌==◌, IfOk, IfSome, is_some, length, nat_lt, true};
 ghost use Rattle.std.specs.List.{All, list_all};
 ghost use Rattle.vd_cost_network_ascent.specs.Walking.{made};
-ghost use Rattle.vd_cost_network_ascent.specs.Shifts.{AreArcShifts};
+ghost use Rattle.vd_space.specs.Shifts.{AreArcShifts};
 ghost use Rattle.vd_cost_network_bound.specs.Bounds.{IsBoundOf};
 ghost use Rattle.vd_cost_network_prefix.specs.Tables.{AreNetworkTables};
-ghost use Rattle.vd_search_stages.specs.Network.{IsBeyond};
+ghost use Rattle.vd_cost_network_bound.specs.Ascents.{IsBeyond};
 
+use crate::ascent::Ascent;
+use crate::refutation::Refutation;
+use crate::walk::Walk;
 use std::alloc::{AllocError, Global};
 use vd_base::Items;
-use vd_cost_network_ascent::{Ascent, Refutation, Walk};
 use vd_cost_network_bound::NetworkBound;
 use vd_cost_network_prefix::{NetworkPath, NetworkTables};
 use vd_search_tree::Shift;

@@ -1,7 +1,7 @@
 use Rattle.std.proofs.Common.{subst}
-use Rattle.vd_search_stages.specs.Network.{IsBeyond}
-use Rattle.vd_search_stages.proofs.Untied.{one_more}
-use Rattle.vd_search_stages.proofs.passing.pass_over.Goals as goal
+use Rattle.vd_cost_network_bound.specs.Ascents.{IsBeyond}
+use Rattle.vd_cost_network_ascent.proofs.Passed.{one_more}
+use Rattle.vd_cost_network_ascent.proofs.passing.pass_over.Goals as goal
 
 pub returns : goal.returns
 returns c =
