@@ -7,7 +7,7 @@ use Rattle.vd_execution.specs.declared.instructions.Reg.{Reg}
 use Rattle.vd_execution.specs.Gadgets.{Sharing, BySums, ByXors, Gadget}
 use Rattle.vd_duet.specs.Calls.{Places, Made}
 use Rattle.vd_backend_sharing.specs.Gates.{Gate, And, Xor, Shl, Shr, Not, Flip, Lowest, Mask, gates_of}
-use Rattle.vd_backend_sharing.specs.declared.shares.Shares.{Shares}
+use Rattle.vd_backend_sharing.specs.declared.shares.PartRegisters.{PartRegisters}
 use Rattle.vd_backend_sharing.specs.PairCalls.{split_off, exchanged, shared_from, opened_by, shown_at, product_shares, shares_of, places_at, pair_calls}
 use Rattle.vd_words.specs.AddCalls.{add_serves, add_apply}
 use Rattle.vd_bits.specs.BitCalls.{gate_shares, gates_shares, circuit_shares, computed}
@@ -19,11 +19,11 @@ sent_append : (gs hs : List Gadget) → words_sent (gs ++ hs) ≡ words_sent gs 
 sent_append [] hs = omega arith
 sent_append (g ∷ gs) hs = let e = sent_append gs hs in omega (arith, e)
 
-product_sends : (s : Sharing) (a b : HostId) (x y : Shares) (next : List ℕ) → words_sent (product_shares s a b x y next).gadgets ≡ 4
+product_sends : (s : Sharing) (a b : HostId) (x y : PartRegisters) (next : List ℕ) → words_sent (product_shares s a b x y next).gadgets ≡ 4
 unfolding product_shares
 product_sends s a b x y next = refl
 
-gate_sends : (a b : HostId) (g : Gate) (words : List Shares) (next : List ℕ) → words_sent (gate_shares a b g words next).gadgets ≡ 4 * products (g ∷ [])
+gate_sends : (a b : HostId) (g : Gate) (words : List PartRegisters) (next : List ℕ) → words_sent (gate_shares a b g words next).gadgets ≡ 4 * products (g ∷ [])
 gate_sends a b (And x y) words next = product_sends ByXors a b _ _ next
 gate_sends a b (Xor x y) words next = refl
 gate_sends a b (Shl k x) words next = refl
@@ -43,11 +43,11 @@ one_more (Flip x) gates = omega arith
 one_more (Lowest x) gates = omega arith
 one_more (Mask x) gates = omega arith
 
-gates_send : (a b : HostId) (gates : List Gate) (words : List Shares) (next : List ℕ) → words_sent (gates_shares a b gates words next).gadgets ≡ 4 * products gates
+gates_send : (a b : HostId) (gates : List Gate) (words : List PartRegisters) (next : List ℕ) → words_sent (gates_shares a b gates words next).gadgets ≡ 4 * products gates
 gates_send a b [] words next = refl
 gates_send a b (g ∷ gates) words next =
-    let one : Made Shares = gate_shares a b g words next in
-    let rest : Made Shares = gates_shares a b gates (words ++ one.given ∷ []) one.next in
+    let one : Made PartRegisters = gate_shares a b g words next in
+    let rest : Made PartRegisters = gates_shares a b gates (words ++ one.given ∷ []) one.next in
     let e = sent_append one.gadgets rest.gadgets in
     let f = gate_sends a b g words next in
     let k = gates_send a b gates (words ++ one.given ∷ []) one.next in
@@ -84,18 +84,18 @@ circuit_sends a b o xs next = gates_send a b (gates_of o) (map shares_of xs) nex
 share_sends : (s : Sharing) (a b from : HostId) (x : Reg) (next : List ℕ) → words_sent (shared_from s a b from x next).gadgets ≡ 1
 share_sends s a b from x next = at (nat_eq from.0 a.0)
   where
-    at : (same : Bool) → let made : Made Shares = if same then split_off s a b x next else exchanged (split_off s b a x next) in words_sent made.gadgets ≡ 1
+    at : (same : Bool) → let made : Made PartRegisters = if same then split_off s a b x next else exchanged (split_off s b a x next) in words_sent made.gadgets ≡ 1
     at true = refl
     at false = refl
 
-show_sends : (s : Sharing) (a b : HostId) (x : Shares) (to : HostId) (next : List ℕ) → words_sent (shown_at s a b x to next).gadgets ≡ 1
+show_sends : (s : Sharing) (a b : HostId) (x : PartRegisters) (to : HostId) (next : List ℕ) → words_sent (shown_at s a b x to next).gadgets ≡ 1
 show_sends s a b x to next = at (nat_eq to.0 a.0)
   where
     at : (same : Bool) → let made : Made Reg = if same then opened_by s b x.second a x.first next else opened_by s a x.first b x.second next in words_sent made.gadgets ≡ 1
     at true = refl
     at false = refl
 
-pair_sends : (s : Sharing) (a b : HostId) (serves : Op → Bool) (apply : Op → List Places → List ℕ → Made Shares) (applied : Op → ℕ)
+pair_sends : (s : Sharing) (a b : HostId) (serves : Op → Bool) (apply : Op → List Places → List ℕ → Made PartRegisters) (applied : Op → ℕ)
     → ((o : Op) (xs : List Places) (next : List ℕ) → words_sent (apply o xs next).gadgets ≡ applied o) → PairSends (pair_calls s a b serves apply) applied
 pair_sends s a b serves apply applied sends = record {
   literal = λ v next. refl;
@@ -145,7 +145,7 @@ words_are_sent = record {
       let pair = drawn a b (shares_of x) next in
       let xs : List Places = x ∷ places_at a b pair.given.1 ∷ [] in
       let rest : Made Places = computed a b op.Sub xs pair.next in
-      let end : Made Shares = finished a b (shares_of rest.given) pair.given.0 rest.next in
+      let end : Made PartRegisters = finished a b (shares_of rest.given) pair.given.0 rest.next in
       let e = sent_append pair.gadgets (rest.gadgets ++ end.gadgets) in
       let f = sent_append rest.gadgets end.gadgets in
       let first : words_sent pair.gadgets ≡ 0 = refl in

@@ -12,7 +12,7 @@ use Rattle.vd_duet.specs.Builder.{next_at, taken}
 use Rattle.vd_duet.specs.Calls.{Places, hosts_of, Made}
 use Rattle.vd_clear.specs.Copies.{literal_at, passed, adopted, kept_by, first_of, after_first, operated, applied_at, told, compared, first_register, shown, each_made, renewed}
 use Rattle.vd_backend_sharing.specs.Gates.{Gate, And, Xor, Shl, Shr, Not, Flip, Lowest, Mask, gates_of}
-use Rattle.vd_backend_sharing.specs.declared.shares.Shares.{Shares}
+use Rattle.vd_backend_sharing.specs.declared.shares.PartRegisters.{PartRegisters}
 use Rattle.vd_backend_sharing.specs.PairCalls.{split_off, exchanged, shared_from, opened_by, shown_at, product_shares, shares_of, places_at, pair_calls}
 use Rattle.vd_words.specs.AddCalls.{add_serves, add_apply}
 use Rattle.vd_bits.specs.BitCalls.{gate_shares, gates_shares, circuit_shares, computed}
@@ -24,11 +24,11 @@ told_append : (gs hs : List Gadget) → all_openings (gs ++ hs) ≡ all_openings
 told_append [] hs = refl
 told_append (g ∷ gs) hs = ap (λ l. openings g ++ l) (told_append gs hs) ∙ sym (append_assoc (openings g) (all_openings gs) (all_openings hs))
 
-product_silent : (s : Sharing) (a b : HostId) (x y : Shares) (next : List ℕ) → all_openings (product_shares s a b x y next).gadgets ≡ []
+product_silent : (s : Sharing) (a b : HostId) (x y : PartRegisters) (next : List ℕ) → all_openings (product_shares s a b x y next).gadgets ≡ []
 unfolding product_shares
 product_silent s a b x y next = refl
 
-gate_silent : (a b : HostId) (g : Gate) (words : List Shares) (next : List ℕ) → all_openings (gate_shares a b g words next).gadgets ≡ []
+gate_silent : (a b : HostId) (g : Gate) (words : List PartRegisters) (next : List ℕ) → all_openings (gate_shares a b g words next).gadgets ≡ []
 gate_silent a b (And x y) words next = product_silent ByXors a b _ _ next
 gate_silent a b (Xor x y) words next = refl
 gate_silent a b (Shl k x) words next = refl
@@ -38,21 +38,21 @@ gate_silent a b (Flip x) words next = refl
 gate_silent a b (Lowest x) words next = refl
 gate_silent a b (Mask x) words next = refl
 
-gates_silent : (a b : HostId) (gates : List Gate) (words : List Shares) (next : List ℕ) → all_openings (gates_shares a b gates words next).gadgets ≡ []
+gates_silent : (a b : HostId) (gates : List Gate) (words : List PartRegisters) (next : List ℕ) → all_openings (gates_shares a b gates words next).gadgets ≡ []
 gates_silent a b [] words next = refl
 gates_silent a b (g ∷ gates) words next =
-    let one : Made Shares = gate_shares a b g words next in
+    let one : Made PartRegisters = gate_shares a b g words next in
     told_append one.gadgets (gates_shares a b gates (words ++ one.given ∷ []) one.next).gadgets
     ∙ ap₂ (λ (l m : List Opening). l ++ m) (gate_silent a b g words next) (gates_silent a b gates (words ++ one.given ∷ []) one.next)
 
 share_silent : (s : Sharing) (a b from : HostId) (x : Reg) (next : List ℕ) → all_openings (shared_from s a b from x next).gadgets ≡ []
 share_silent s a b from x next = at (nat_eq from.0 a.0)
   where
-    at : (same : Bool) → let made : Made Shares = if same then split_off s a b x next else exchanged (split_off s b a x next) in all_openings made.gadgets ≡ []
+    at : (same : Bool) → let made : Made PartRegisters = if same then split_off s a b x next else exchanged (split_off s b a x next) in all_openings made.gadgets ≡ []
     at true = refl
     at false = refl
 
-shown_tells : (s : Sharing) (a b : HostId) (x : Shares) (to : HostId) (next : List ℕ)
+shown_tells : (s : Sharing) (a b : HostId) (x : PartRegisters) (to : HostId) (next : List ℕ)
     → all_openings (shown_at s a b x to next).gadgets ≡ (if nat_eq to.0 a.0 then (b, (x.second, a)) ∷ [] else (a, (x.first, b)) ∷ [])
 shown_tells s a b x to next = at (nat_eq to.0 a.0)
   where
@@ -61,7 +61,7 @@ shown_tells s a b x to next = at (nat_eq to.0 a.0)
     at true = refl
     at false = refl
 
-pair_tells : (s : Sharing) (a b : HostId) (serves : Op → Bool) (apply : Op → List Places → List ℕ → Made Shares)
+pair_tells : (s : Sharing) (a b : HostId) (serves : Op → Bool) (apply : Op → List Places → List ℕ → Made PartRegisters)
     → ((o : Op) (xs : List Places) (next : List ℕ) → all_openings (apply o xs next).gadgets ≡ []) → TellsWhatIsShown a b (pair_calls s a b serves apply)
 pair_tells s a b serves apply silent = record {
   literal = λ v next. refl;
@@ -111,7 +111,7 @@ conversions_tell = record {
   to_sums = λ a b x next.
       let pair = drawn a b (shares_of x) next in
       let rest : Made Places = computed a b op.Sub (x ∷ places_at a b pair.given.1 ∷ []) pair.next in
-      let end : Made Shares = finished a b (shares_of rest.given) pair.given.0 rest.next in
+      let end : Made PartRegisters = finished a b (shares_of rest.given) pair.given.0 rest.next in
       told_append rest.gadgets end.gadgets
       ∙ ap (λ (l : List Opening). l ++ all_openings end.gadgets) (gates_silent a b (gates_of op.Sub) (map shares_of (x ∷ places_at a b pair.given.1 ∷ [])) pair.next);
 }

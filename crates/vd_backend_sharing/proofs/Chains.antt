@@ -8,7 +8,7 @@ use Rattle.vd_execution.specs.Gadgets.{Sharing, IsSound}
 use Rattle.vd_duet.specs.Calls.{Places, Made}
 use Rattle.vd_duet.specs.Laws.{nowhere, Gives}
 use Rattle.vd_duet.proofs.Front.{leads_on, tidy_append, Since, since_start, since_on}
-use Rattle.vd_backend_sharing.specs.declared.shares.Shares.{Shares}
+use Rattle.vd_backend_sharing.specs.declared.shares.PartRegisters.{PartRegisters}
 use Rattle.vd_backend_sharing.specs.Sharings.{joined}
 use Rattle.vd_backend_sharing.proofs.Parts.{Parts}
 
@@ -38,7 +38,7 @@ gives_then count count' t next source source' one more w P Q sound a f fresh_or_
     later h r (inr s) = fresh_or_named h r s
 
 -- parts stand for their word later too
-pub parts_later : (s : Sharing) (a b : HostId) (next next' : List ℕ) (w u : Hosts) (x : Shares) (v : ℕ) → Since next w next' u → Parts s a b next w x v → Parts s a b next' u x v
+pub parts_later : (s : Sharing) (a b : HostId) (next next' : List ℕ) (w u : Hosts) (x : PartRegisters) (v : ℕ) → Since next w next' u → Parts s a b next w x v → Parts s a b next' u x v
 parts_later s a b next next' w u x v since p = record {
   first_low = (let l = since.longer a.0 in let q = p.first_low in omega (arith, l, q));
   second_low = (let l = since.longer b.0 in let q = p.second_low in omega (arith, l, q));

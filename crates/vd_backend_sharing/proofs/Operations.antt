@@ -15,7 +15,7 @@ use Rattle.vd_execution.specs.Text.{register}
 use Rattle.vd_duet.specs.Builder.{most_taken}
 use Rattle.vd_duet.specs.Calls.{Places, Made}
 use Rattle.vd_duet.specs.Laws.{GivesWord, StandFor, IsReady}
-use Rattle.vd_backend_sharing.specs.declared.shares.Shares.{Shares}
+use Rattle.vd_backend_sharing.specs.declared.shares.PartRegisters.{PartRegisters}
 use Rattle.vd_backend_sharing.specs.Sharings.{join, multiply, joined, hidden, multiplied}
 use Rattle.vd_backend_sharing.specs.PairCalls.{two, applied_shares, numbered_shares, product_gadgets, product_shares, places_at, at_hosts, pair_calls}
 use Rattle.vd_backend_sharing.proofs.Deeds.{Side, First, Second, Old, New, Deed, Number, Applied, Multiplied, nothing_left, item_word}
@@ -54,15 +54,15 @@ multiplying s =
     Multiplied s (Old 0) (Old 1) (Old 0) (Old 1)
     ∷ (unmasking s First ++ (Applied First (multiply s) (New 7) (New 8) ∷ Applied First (join s) (New 12) (New 13) ∷ unmasking s Second))
 
-module _ (s : Sharing) (a b : HostId) (apart : a.0 ≢ b.0) (serves : Op → Bool) (apply : Op → List Places → List ℕ → Made Shares)
+module _ (s : Sharing) (a b : HostId) (apart : a.0 ≢ b.0) (serves : Op → Bool) (apply : Op → List Places → List ℕ → Made PartRegisters)
     (t : Tape) (next : List ℕ) (w : Hosts) (ready : IsReady (pair_calls s a b serves apply) t next w) (source : ℕ → ℕ → Type 0) where
-  abbrev word_first : Shares → ℕ
+  abbrev word_first : PartRegisters → ℕ
   word_first x = (w a.0).registers x.first.0
 
-  abbrev word_second : Shares → ℕ
+  abbrev word_second : PartRegisters → ℕ
   word_second x = (w b.0).registers x.second.0
 
-  pub applied_gives : (o : Binary) (x y : Shares) (u v r : ℕ) → Parts s a b next w x u → Parts s a b next w y v
+  pub applied_gives : (o : Binary) (x y : PartRegisters) (u v r : ℕ) → Parts s a b next w x u → Parts s a b next w y v
       → joined s (applied o ((w a.0).registers x.first.0) ((w a.0).registers y.first.0)) (applied o ((w b.0).registers x.second.0) ((w b.0).registers y.second.0)) ≡ r
       → GivesWord (pair_calls s a b serves apply) t next source (at_hosts a b (applied_shares o a b x y next)) w r
   applied_gives o x y u v r p q is =
@@ -75,7 +75,7 @@ module _ (s : Sharing) (a b : HostId) (apart : a.0 ≢ b.0) (serves : Op → Boo
       (omega arith) (omega arith)
       (λ u h. stands_by a b serves apply s u (register (slice_index next a.0)) (register (slice_index next b.0)) r (ap₂ (joined s) h.0 h.1.0 ∙ is))
 
-  pub numbered_gives : (o : Binary) (k : ℕ) → k < 2 ^ 32 → (x : Shares) (u r : ℕ) → Parts s a b next w x u
+  pub numbered_gives : (o : Binary) (k : ℕ) → k < 2 ^ 32 → (x : PartRegisters) (u r : ℕ) → Parts s a b next w x u
       → joined s (applied o ((w a.0).registers x.first.0) k) (applied o ((w b.0).registers x.second.0) k) ≡ r
       → GivesWord (pair_calls s a b serves apply) t next source (at_hosts a b (numbered_shares o k a b x next)) w r
   numbered_gives o k small x u r p is =
@@ -90,20 +90,20 @@ module _ (s : Sharing) (a b : HostId) (apart : a.0 ≢ b.0) (serves : Op → Boo
       (λ u h. stands_by a b serves apply s u (register (slice_index next a.0 + 1)) (register (slice_index next b.0 + 1)) r (ap₂ (joined s) h.0 h.1.0 ∙ is))
 
   -- the items that are next
-  abbrev item : Shares → Shares → Side → ℕ → ℕ
+  abbrev item : PartRegisters → PartRegisters → Side → ℕ → ℕ
   item x y side i = item_word t (pair_at a b (x.first ∷ y.first ∷ []) (x.second ∷ y.second ∷ []) next) w nothing_left s side i
 
-  item_meets : (s : Sharing) (x y : Shares)
+  item_meets : (s : Sharing) (x y : PartRegisters)
       → let it : Side → ℕ → ℕ = λ side i. item_word t (pair_at a b (x.first ∷ y.first ∷ []) (x.second ∷ y.second ∷ []) next) w nothing_left s side i in
       IsItem s (it First 0) (it Second 0) (it First 1) (it Second 1) (it First 2) (it Second 2)
   item_meets BySums x y = ready.deal.triples a.0 b.0 ((w a.0).cursors (Triples b.0) + 0) apart
   item_meets ByXors x y = ready.deal.bit_triples a.0 b.0 ((w a.0).cursors (BitTriples b.0) + 0) apart
 
-  item_small : (x y : Shares) (side : Side) (i : ℕ) → item x y side i < 2 ^ 32
+  item_small : (x y : PartRegisters) (side : Side) (i : ℕ) → item x y side i < 2 ^ 32
   item_small x y First i = ready.deal.words a.0 (source_of s b.0) ((w a.0).cursors (source_of s b.0) + 0) i
   item_small x y Second i = ready.deal.words b.0 (source_of s a.0) ((w a.0).cursors (source_of s b.0) + 0) i
 
-  pub product_gives : ItemsMultiply s → (x y : Shares) (u v : ℕ) → Parts s a b next w x u → Parts s a b next w y v
+  pub product_gives : ItemsMultiply s → (x y : PartRegisters) (u v : ℕ) → Parts s a b next w x u → Parts s a b next w y v
       → GivesWord (pair_calls s a b serves apply) t next source (at_hosts a b (product_shares s a b x y next)) w (multiplied s u v)
   unfolding product_shares
   product_gives law x y u v p q =

@@ -8,7 +8,7 @@ use Rattle.vd_execution.specs.Gadgets.{Sharing, BySums, ByXors}
 use Rattle.vd_base.specs.Holders.{holders, is_among}
 use Rattle.vd_duet.specs.Calls.{Places, Made}
 use Rattle.vd_duet.specs.Acting.{is_either, acts_at, share_at, adopt_at, show_at, show_all_at, apply_at, ActsWhereItSays}
-use Rattle.vd_backend_sharing.specs.declared.shares.Shares.{Shares}
+use Rattle.vd_backend_sharing.specs.declared.shares.PartRegisters.{PartRegisters}
 use Rattle.vd_backend_sharing.specs.Sharings.{shared_by}
 use Rattle.vd_backend_sharing.specs.PairCalls.{split_off, exchanged, shared_from, opened_by, shown_at, applied_shares, numbered_shares, product_shares, shares_of, pair_calls}
 
@@ -52,11 +52,11 @@ module _ (a b : HostId) (h : ℕ) where
   shared_acts : (s : Sharing) (from : HostId) (x : Reg) (next : List ℕ) → acts_at (shared_from s a b from x next).gadgets h ≡ is_either h a b
   shared_acts s from x next = at (nat_eq from.0 a.0)
     where
-      at : (same : Bool) → let made : Made Shares = if same then split_off s a b x next else exchanged (split_off s b a x next) in acts_at made.gadgets h ≡ is_either h a b
+      at : (same : Bool) → let made : Made PartRegisters = if same then split_off s a b x next else exchanged (split_off s b a x next) in acts_at made.gadgets h ≡ is_either h a b
       at true = given_first (nat_eq h a.0) (nat_eq h b.0)
       at false = given_second (nat_eq h a.0) (nat_eq h b.0)
 
-  shown_acts : (s : Sharing) (x : Shares) (to : HostId) (next : List ℕ) → acts_at (shown_at s a b x to next).gadgets h ≡ is_either h a b
+  shown_acts : (s : Sharing) (x : PartRegisters) (to : HostId) (next : List ℕ) → acts_at (shown_at s a b x to next).gadgets h ≡ is_either h a b
   shown_acts s x to next = at (nat_eq to.0 a.0)
     where
       at : (same : Bool) → let made : Made Reg = if same then opened_by s b x.second a x.first next else opened_by s a x.first b x.second next in acts_at made.gadgets h ≡ is_either h a b
@@ -85,10 +85,10 @@ module _ (a b : HostId) (h : ℕ) where
 
   -- ---- operations
 
-  pub applied_acts : (o : Binary) (x y : Shares) (next : List ℕ) → acts_at (applied_shares o a b x y next).gadgets h ≡ is_either h a b
+  pub applied_acts : (o : Binary) (x y : PartRegisters) (next : List ℕ) → acts_at (applied_shares o a b x y next).gadgets h ≡ is_either h a b
   applied_acts o x y next = both (nat_eq h a.0) (nat_eq h b.0)
 
-  pub numbered_acts : (o : Binary) (k : ℕ) (x : Shares) (next : List ℕ) → acts_at (numbered_shares o k a b x next).gadgets h ≡ is_either h a b
+  pub numbered_acts : (o : Binary) (k : ℕ) (x : PartRegisters) (next : List ℕ) → acts_at (numbered_shares o k a b x next).gadgets h ≡ is_either h a b
   numbered_acts o k x next = at (nat_eq h a.0) (nat_eq h b.0)
     where
       at : (p q : Bool) → (p || (p || (q || (q || false)))) ≡ (p || q)
@@ -96,7 +96,7 @@ module _ (a b : HostId) (h : ℕ) where
       at false true = refl
       at false false = refl
 
-  pub product_acts : (s : Sharing) (x y : Shares) (next : List ℕ) → acts_at (product_shares s a b x y next).gadgets h ≡ is_either h a b
+  pub product_acts : (s : Sharing) (x y : PartRegisters) (next : List ℕ) → acts_at (product_shares s a b x y next).gadgets h ≡ is_either h a b
   unfolding product_shares
   product_acts s x y next = at (nat_eq h a.0) (nat_eq h b.0)
     where
@@ -106,7 +106,7 @@ module _ (a b : HostId) (h : ℕ) where
       at false true = refl
       at false false = refl
 
-pub pair_acts : (s : Sharing) (a b : HostId) (serves : Op → Bool) (apply : Op → List Places → List ℕ → Made Shares)
+pub pair_acts : (s : Sharing) (a b : HostId) (serves : Op → Bool) (apply : Op → List Places → List ℕ → Made PartRegisters)
     → ((o : Op) → IsTrue (serves o) → (xs : List Places) (next : List ℕ) (h : ℕ) → acts_at (apply o xs next).gadgets h ≡ apply_at o (shared_by s a b) h)
     → ActsWhereItSays (pair_calls s a b serves apply)
 pair_acts s a b serves apply law = record {

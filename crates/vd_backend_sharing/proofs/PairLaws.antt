@@ -20,7 +20,7 @@ use Rattle.vd_duet.specs.Builder.{next_at, most_taken}
 use Rattle.vd_duet.specs.Calls.{Places, hosts_of, Made, register_of}
 use Rattle.vd_duet.specs.Laws.{IsIn, IsInOne, nowhere, Joins, Leads, Gives, GivesThere, GivesWord, Copies, StandFor, Operand, Operands, IsReady, Reaches, Renews, NumberFits, BackendLaws}
 use Rattle.vd_duet.proofs.Front.{Writes, wrote, writes_own, leads_writing, leads_on, found}
-use Rattle.vd_backend_sharing.specs.declared.shares.Shares.{Shares}
+use Rattle.vd_backend_sharing.specs.declared.shares.PartRegisters.{PartRegisters}
 use Rattle.vd_backend_sharing.specs.Sharings.{shared_by, join, joined, hidden}
 use Rattle.vd_backend_sharing.specs.PairCalls.{two, literal_shares, split_off, exchanged, shared_from, adopted_shares, opened_by, shown_at, shown_to_both, kept_shares, shares_of, places_at, at_hosts, pair_calls}
 use Rattle.vd_backend_sharing.proofs.Deeds.{First, Second, Old, New, Number, Copied, Applied, GivenAway, Opened, nothing_left, own_word}
@@ -52,7 +52,7 @@ either_host h a b n e =
       | inr i ↦ inr (same_of h.0 b.0 i)
     ]
 
-module _ (s : Sharing) (a b : HostId) (apart : a.0 ≢ b.0) (serves : Op → Bool) (apply : Op → List Places → List ℕ → Made Shares)
+module _ (s : Sharing) (a b : HostId) (apart : a.0 ≢ b.0) (serves : Op → Bool) (apply : Op → List Places → List ℕ → Made PartRegisters)
     (t : Tape) (next : List ℕ) (w : Hosts) (ready : IsReady (pair_calls s a b serves apply) t next w) where
   a_known : a.0 < length next
   a_known = (both_known a b serves apply s next ready.known).0
@@ -144,14 +144,14 @@ module _ (s : Sharing) (a b : HostId) (apart : a.0 ≢ b.0) (serves : Op → Boo
 
   -- ---- words that are opened
 
-  show_first : (source : ℕ → ℕ → Type 0) (x : Shares) (v : ℕ) → Parts s a b next w x v → GivesThere most_taken t next source a (opened_by s b x.second a x.first next) w v
+  show_first : (source : ℕ → ℕ → Type 0) (x : PartRegisters) (v : ℕ) → Parts s a b next w x v → GivesThere most_taken t next source a (opened_by s b x.second a x.first next) w v
   show_first source x v parts =
       one_gives t ready.deal next w ready.sound a b apart a_known b_known (x.first ∷ []) (x.second ∷ []) (parts.first_low, tt) (parts.second_low, tt) most_taken 2 source
       (λ u. (u a.0).registers (slice_index next a.0 + 1) ≡ v)
       (Opened s Second (Old 0) (Old 0) ∷ Applied First (join s) (Old 0) (New 0) ∷ []) ((First, New 1) ∷ []) refl (tt, (tt, tt)) refl (tt, tt) refl refl (omega arith)
       (λ u h. h.0 ∙ parts.word)
 
-  show_second : (source : ℕ → ℕ → Type 0) (x : Shares) (v : ℕ) → Parts s a b next w x v → GivesThere most_taken t next source b (opened_by s a x.first b x.second next) w v
+  show_second : (source : ℕ → ℕ → Type 0) (x : PartRegisters) (v : ℕ) → Parts s a b next w x v → GivesThere most_taken t next source b (opened_by s a x.first b x.second next) w v
   show_second source x v parts =
       one_gives t ready.deal next w ready.sound b a back b_known a_known (x.second ∷ []) (x.first ∷ []) (parts.second_low, tt) (parts.first_low, tt) most_taken 2 source
       (λ u. (u b.0).registers (slice_index next b.0 + 1) ≡ v)
@@ -173,7 +173,7 @@ module _ (s : Sharing) (a b : HostId) (apart : a.0 ≢ b.0) (serves : Op → Boo
           (same_id b to (sym (not_first to e (joins_to s to can))))
           (show_second (IsIn x) (shares_of x) v (parts_of a b serves apply s next w x v o))
 
-  show_all_law : (source : ℕ → ℕ → Type 0) (x : Shares) (v : ℕ) → Parts s a b next w x v
+  show_all_law : (source : ℕ → ℕ → Type 0) (x : PartRegisters) (v : ℕ) → Parts s a b next w x v
       → let made : Made Places = at_hosts a b (shown_to_both s a b x next) in
       Gives most_taken t next source made w (λ u. (hosts_of made.given ≡ holders (shared_by s a b)) × Copies u made.given v)
   show_all_law source x v parts =
@@ -191,7 +191,7 @@ module _ (s : Sharing) (a b : HostId) (apart : a.0 ≢ b.0) (serves : Op → Boo
 
   -- ---- copies
 
-  keep_law : (source : ℕ → ℕ → Type 0) (x : Shares) (v : ℕ) → Parts s a b next w x v → GivesParts source (at_hosts a b (kept_shares a b x next)) v
+  keep_law : (source : ℕ → ℕ → Type 0) (x : PartRegisters) (v : ℕ) → Parts s a b next w x v → GivesParts source (at_hosts a b (kept_shares a b x next)) v
   keep_law source x v parts =
       fresh_gives t ready.deal next w ready.sound a b apart a_known b_known (x.first ∷ []) (x.second ∷ []) (parts.first_low, tt) (parts.second_low, tt) most_taken 1 1 source
       (λ n m. places_at a b (two n m)) (λ n m. Alone a (action.Copy (register n) x.first) ∷ Alone b (action.Copy (register m) x.second) ∷ []) (IsParts v)
@@ -227,7 +227,7 @@ module _ (s : Sharing) (a b : HostId) (apart : a.0 ≢ b.0) (serves : Op → Boo
       }
 
 -- the laws of a back end, from that of its operations
-pub pair_laws : (s : Sharing) (a b : HostId) → a.0 ≢ b.0 → (serves : Op → Bool) (apply : Op → List Places → List ℕ → Made Shares)
+pub pair_laws : (s : Sharing) (a b : HostId) → a.0 ≢ b.0 → (serves : Op → Bool) (apply : Op → List Places → List ℕ → Made PartRegisters)
     → ((t : Tape) (next : List ℕ) (w : Hosts) → IsReady (pair_calls s a b serves apply) t next w
     → (o : Op) → IsTrue (serves o) → NumberFits o → (xs : List Places) (vs : List ℕ) → length xs ≡ arity o → Operands (pair_calls s a b serves apply) next w xs vs
     → GivesWord (pair_calls s a b serves apply) t next (IsInOne xs) (at_hosts a b (apply o xs next)) w (result_of o vs))

@@ -9,17 +9,17 @@ use Rattle.vd_execution.specs.Joint.{Hosts}
 use Rattle.vd_execution.specs.Gadgets.{Sharing, BySums, ByXors}
 use Rattle.vd_duet.specs.Calls.{Places, hosts_of, Made, Join}
 use Rattle.vd_duet.specs.Laws.{IsIn, IsHost, words_at, AreKnown, AreBelow, StandFor, Operand, Operands}
-use Rattle.vd_backend_sharing.specs.declared.shares.Shares.{Shares}
+use Rattle.vd_backend_sharing.specs.declared.shares.PartRegisters.{PartRegisters}
 use Rattle.vd_backend_sharing.specs.Sharings.{shared_by, joined}
 use Rattle.vd_backend_sharing.specs.PairCalls.{shares_of, operand, pair_calls}
 
 -- the registers of a word's parts, one at each host
-pub record Parts (s : Sharing) (a b : HostId) (next : List ℕ) (w : Hosts) (x : Shares) (v : ℕ) : Type 0 where
+pub record Parts (s : Sharing) (a b : HostId) (next : List ℕ) (w : Hosts) (x : PartRegisters) (v : ℕ) : Type 0 where
   pub first_low : x.first.0 < slice_index next a.0
   pub second_low : x.second.0 < slice_index next b.0
   pub word : joined s ((w a.0).registers x.first.0) ((w b.0).registers x.second.0) ≡ v
 
-record Named (f : ℕ → ℕ → ℕ) (a b : HostId) (next : List ℕ) (w : Hosts) (x : Places) (y : Shares) (v : ℕ) : Type 0 where
+record Named (f : ℕ → ℕ → ℕ) (a b : HostId) (next : List ℕ) (w : Hosts) (x : Places) (y : PartRegisters) (v : ℕ) : Type 0 where
   first_low : y.first.0 < slice_index next a.0
   second_low : y.second.0 < slice_index next b.0
   word : f ((w a.0).registers y.first.0) ((w b.0).registers y.second.0) ≡ v
@@ -48,7 +48,7 @@ rejoined f a b w u (q ∷ r ∷ []) v v' at word is =
     subst₂ (λ (h k : HostId). f ((u h.0).registers q.1.0) ((u k.0).registers r.1.0) ≡ v') (sym e) (sym g) is
 rejoined f a b w u (q ∷ r ∷ z ∷ x) v v' at word is = absurd word
 
-module _ (a b : HostId) (serves : Op → Bool) (apply : Op → List Places → List ℕ → Made Shares) where
+module _ (a b : HostId) (serves : Op → Bool) (apply : Op → List Places → List ℕ → Made PartRegisters) where
   pub stands_by : (s : Sharing) (u : Hosts) (r q : Reg) (v : ℕ) → joined s ((u a.0).registers r.0) ((u b.0).registers q.0) ≡ v
       → StandFor (pair_calls s a b serves apply) u ((a, r) ∷ (b, q) ∷ []) v
   stands_by BySums u r q v e = record { at = refl; word = e }

@@ -12,11 +12,11 @@ use Rattle.vd_execution.specs.Gadgets.{Sharing, hide, Masking, Gadget, Alone, Sh
 use Rattle.vd_execution.specs.Text.{register}
 use Rattle.vd_duet.specs.Builder.{Builder, next_at, taken}
 use Rattle.vd_duet.specs.Calls.{Places, Made, Calls, register_of}
-use Rattle.vd_backend_sharing.specs.declared.shares.Shares.{Shares}
+use Rattle.vd_backend_sharing.specs.declared.shares.PartRegisters.{PartRegisters}
 use Rattle.vd_backend_sharing.specs.Sharings.{shared_by, join, multiply}
 
 -- the registers of two parts
-abbrev pub two : ℕ → ℕ → Shares
+abbrev pub two : ℕ → ℕ → PartRegisters
 two r q = record { first = register r; second = register q }
 
 -- the next free registers are below a number
@@ -34,31 +34,31 @@ fresh_at a i b j given gadgets next =
     let m : ℕ = slice_index (taken a i next) b.0 in
     record { given = given n m; gadgets = gadgets n m; next = taken b j (taken a i next) }
 
-abbrev pub reserved_both : HostId → ℕ → HostId → ℕ → Builder → Shares × Builder
+abbrev pub reserved_both : HostId → ℕ → HostId → ℕ → Builder → PartRegisters × Builder
 reserved_both a i b j c =
     (two (slice_index c.next a.0) (slice_index (taken a i c.next) b.0), record { lines = c.lines; next = taken b j (taken a i c.next) })
 
 -- ---- numbers and moves
 
 -- the first host has the number, and the second 0
-abbrev pub literal_shares : HostId → HostId → ℕ → List ℕ → Made Shares
+abbrev pub literal_shares : HostId → HostId → ℕ → List ℕ → Made PartRegisters
 literal_shares a b v =
     fresh_at a 1 b 1 (λ n m. two n m) (λ n m. Alone a (action.Const (register n) v) ∷ Alone b (action.Const (register m) 0) ∷ [])
 
 -- a host gives an own word to the other, and keeps its word without that. The first part is its own
-abbrev pub split_off : Sharing → HostId → HostId → Reg → List ℕ → Made Shares
+abbrev pub split_off : Sharing → HostId → HostId → Reg → List ℕ → Made PartRegisters
 split_off s h q x =
     fresh_at h 2 q 1 (λ n m. two (n + 1) m)
     (λ n m. SharesWith h (register n) q (register m) ∷ Alone h (action.Apply (hide s) (register (n + 1)) x (register n)) ∷ [])
 
-abbrev pub exchanged : Made Shares → Made Shares
+abbrev pub exchanged : Made PartRegisters → Made PartRegisters
 exchanged made = record { given = record { first = made.given.second; second = made.given.first }; gadgets = made.gadgets; next = made.next }
 
-abbrev pub shared_from : Sharing → HostId → HostId → HostId → Reg → List ℕ → Made Shares
+abbrev pub shared_from : Sharing → HostId → HostId → HostId → Reg → List ℕ → Made PartRegisters
 shared_from s a b from x next = if nat_eq from.0 a.0 then split_off s a b x next else exchanged (split_off s b a x next)
 
 -- both hosts have a copy: the first keeps its own, and the second's part is 0
-abbrev pub adopted_shares : HostId → HostId → Places → List ℕ → Made Shares
+abbrev pub adopted_shares : HostId → HostId → Places → List ℕ → Made PartRegisters
 adopted_shares a b x next = record {
   given = record { first = register_of x a.0; second = next_at next b };
   gadgets = Alone b (action.Const (next_at next b) 0) ∷ [];
@@ -75,35 +75,35 @@ opened_by s q part h own next =
       next = taken h 2 next;
     }
 
-abbrev pub shown_at : Sharing → HostId → HostId → Shares → HostId → List ℕ → Made Reg
+abbrev pub shown_at : Sharing → HostId → HostId → PartRegisters → HostId → List ℕ → Made Reg
 shown_at s a b x to next = if nat_eq to.0 a.0 then opened_by s b x.second a x.first next else opened_by s a x.first b x.second next
 
 -- both open their parts
-abbrev pub shown_to_both : Sharing → HostId → HostId → Shares → List ℕ → Made Shares
+abbrev pub shown_to_both : Sharing → HostId → HostId → PartRegisters → List ℕ → Made PartRegisters
 shown_to_both s a b x =
     fresh_at a 2 b 2 (λ n m. two (n + 1) (m + 1))
     (λ n m. Opens s a x.first b x.second (register m) ∷ Opens s b x.second a x.first (register n)
     ∷ Alone a (action.Apply (join s) (register (n + 1)) x.first (register n))
     ∷ Alone b (action.Apply (join s) (register (m + 1)) x.second (register m)) ∷ [])
 
-abbrev pub kept_shares : HostId → HostId → Shares → List ℕ → Made Shares
+abbrev pub kept_shares : HostId → HostId → PartRegisters → List ℕ → Made PartRegisters
 kept_shares a b x =
     fresh_at a 1 b 1 (λ n m. two n m)
     (λ n m. Alone a (action.Copy (register n) x.first) ∷ Alone b (action.Copy (register m) x.second) ∷ [])
 
-abbrev pub renewed_shares : HostId → HostId → Shares → Shares → List Gadget
+abbrev pub renewed_shares : HostId → HostId → PartRegisters → PartRegisters → List Gadget
 renewed_shares a b kept x = Alone a (action.Copy kept.first x.first) ∷ Alone b (action.Copy kept.second x.second) ∷ []
 
 -- ---- operations
 
 -- each host applies an operation to its parts
-abbrev pub applied_shares : Binary → HostId → HostId → Shares → Shares → List ℕ → Made Shares
+abbrev pub applied_shares : Binary → HostId → HostId → PartRegisters → PartRegisters → List ℕ → Made PartRegisters
 applied_shares o a b x y =
     fresh_at a 1 b 1 (λ n m. two n m)
     (λ n m. Alone a (action.Apply o (register n) x.first y.first) ∷ Alone b (action.Apply o (register m) x.second y.second) ∷ [])
 
 -- each host applies an operation to its part and a number
-abbrev pub numbered_shares : Binary → ℕ → HostId → HostId → Shares → List ℕ → Made Shares
+abbrev pub numbered_shares : Binary → ℕ → HostId → HostId → PartRegisters → List ℕ → Made PartRegisters
 numbered_shares o k a b x =
     fresh_at a 2 b 2 (λ n m. two (n + 1) (m + 1))
     (λ n m. Alone a (action.Const (register n) k) ∷ Alone a (action.Apply o (register (n + 1)) x.first (register n))
@@ -140,7 +140,7 @@ completed s h n =
     Alone h (action.Apply (multiply s) (register (n + 13)) (register (n + 7)) (register (n + 8)))
     ∷ Alone h (action.Apply (join s) (register (n + 14)) (register (n + 12)) (register (n + 13))) ∷ []
 
-abbrev pub product_gadgets : Sharing → HostId → HostId → Shares → Shares → ℕ → ℕ → List Gadget
+abbrev pub product_gadgets : Sharing → HostId → HostId → PartRegisters → PartRegisters → ℕ → ℕ → List Gadget
 product_gadgets s a b x y n m =
     Masked s (masking_from a x.first y.first n) (masking_from b x.second y.second m)
     ∷ (unmasked s a n ++ (completed s a n ++ unmasked s b m))
@@ -154,31 +154,31 @@ abbrev pub masked_told : HostId → ℕ → HostId → ℕ → List Act
 masked_told h n q m = act.Msg h (register (n + 3) ∷ register (n + 4) ∷ []) q (register (m + 5) ∷ register (m + 6) ∷ []) ∷ []
 
 -- the product of two words, by one dealt item
-unfoldable pub product_shares : Sharing → HostId → HostId → Shares → Shares → List ℕ → Made Shares
+unfoldable pub product_shares : Sharing → HostId → HostId → PartRegisters → PartRegisters → List ℕ → Made PartRegisters
 product_shares s a b x y = fresh_at a 15 b 13 (λ n m. two (n + 14) (m + 12)) (product_gadgets s a b x y)
 
 -- ---- as calls of a back end
 
 -- the registers of the two parts, which stand in the order of the hosts
-abbrev pub shares_of : Places → Shares
+abbrev pub shares_of : Places → PartRegisters
 shares_of [] = two 0 0
 shares_of (p ∷ []) = two 0 0
 shares_of (p ∷ q ∷ x) = record { first = p.1; second = q.1 }
 
-abbrev pub places_at : HostId → HostId → Shares → Places
+abbrev pub places_at : HostId → HostId → PartRegisters → Places
 places_at a b x = (a, x.first) ∷ (b, x.second) ∷ []
 
-abbrev pub at_hosts : HostId → HostId → Made Shares → Made Places
+abbrev pub at_hosts : HostId → HostId → Made PartRegisters → Made Places
 at_hosts a b made = record { given = places_at a b made.given; gadgets = made.gadgets; next = made.next }
 
 -- the operands by number; one that is missing has the registers 0
-abbrev pub operand : List Places → ℕ → Shares
+abbrev pub operand : List Places → ℕ → PartRegisters
 operand [] i = two 0 0
 operand (x ∷ xs) zero = shares_of x
 operand (x ∷ xs) (suc i) = operand xs i
 
 -- a back end of two hosts that share, by which operations it serves and what it makes of each
-abbrev pub pair_calls : Sharing → HostId → HostId → (Op → Bool) → (Op → List Places → List ℕ → Made Shares) → Calls
+abbrev pub pair_calls : Sharing → HostId → HostId → (Op → Bool) → (Op → List Places → List ℕ → Made PartRegisters) → Calls
 pair_calls s a b serves apply = record {
   proto = shared_by s a b;
   serves = serves;

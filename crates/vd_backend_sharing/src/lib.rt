@@ -12,4 +12,4 @@ pub use backend_algebra::{
     sum_circuits, sums_are_shared, sums_part_by_part,
 };
 pub use pair::{Pair, tell};
-pub use shares::{Shares, Sharing};
+pub use shares::{PartRegisters, Sharing};

@@ -6,7 +6,7 @@ ghost use Rattle.vd_execution.specs.declared.instructions.Act.TheVariants as act
 ghost use Rattle.vd_backend_sharing.specs.Sharings.{sharing_of};
 ghost use Rattle.vd_backend_sharing.specs.PairCalls.{AreLow, reserved_both, literal_shares, split_off, exchanged, shared_from, adopted_shares, opened_by, shown_at, shown_to_both, kept_shares, renewed_shares, applied_shares, numbered_shares};
 
-use crate::shares::{Shares, Sharing};
+use crate::shares::{PartRegisters, Sharing};
 use std::alloc::AllocError;
 use vd_base::{HostId, Items};
 use vd_duet::{Clear, Duet, Parts, register_at};
@@ -38,7 +38,7 @@ pub fn tell(
 impl Pair {
     /// The first of some fresh registers of each host.
     #[tactic(auto, using(crate::proofs::Rooms::both_few))]
-    pub fn reserve(&self, first: u32, second: u32, to: &mut Duet) -> Shares
+    pub fn reserve(&self, first: u32, second: u32, to: &mut Duet) -> PartRegisters
         requires known { AreKnown (self.now.first ∷ self.now.second ∷ []) to.old.next }
         requires room { AreLow to.old.next }
         requires few_first { first ≤ 16 }
@@ -48,14 +48,14 @@ impl Pair {
         ensures low_second { result.second.0 < 4000000016 }
         ensures few { TakesAtMost 32 to.old.next to.new.next }
     {
-        Shares {
+        PartRegisters {
             first: to.reserve(self.first, first),
             second: to.reserve(self.second, second),
         }
     }
 
     /// A number: the first host has it, and the second 0.
-    pub fn literal(&self, word: u32, to: &mut Duet) -> Result<Shares, AllocError>
+    pub fn literal(&self, word: u32, to: &mut Duet) -> Result<PartRegisters, AllocError>
         requires known { AreKnown (self.now.first ∷ self.now.second ∷ []) to.old.next }
         requires room { AreLow to.old.next }
         ensures exact { IfOk result (λ x. Makes (literal_shares self.now.first self.now.second word) to.old x to.new) }
@@ -68,7 +68,7 @@ impl Pair {
     }
 
     /// The move of a word from one of the two hosts, which has it in clear.
-    pub fn share(&self, from: HostId, x: Reg, to: &mut Duet) -> Result<Shares, AllocError>
+    pub fn share(&self, from: HostId, x: Reg, to: &mut Duet) -> Result<PartRegisters, AllocError>
         requires known { AreKnown (self.now.first ∷ self.now.second ∷ []) to.old.next }
         requires room { AreLow to.old.next }
         ensures exact { IfOk result (λ y. Makes (shared_from (sharing_of self.now.sharing) self.now.first self.now.second from x)
@@ -79,7 +79,7 @@ impl Pair {
             return self.split_off(x, to);
         }
         let split = self.turned().split_off(x, to)?;
-        Ok(Shares {
+        Ok(PartRegisters {
             first: split.second,
             second: split.first,
         })
@@ -99,7 +99,7 @@ impl Pair {
     }
 
     /// The first host gives an own word to the second, and keeps its word without that.
-    fn split_off(&self, x: Reg, to: &mut Duet) -> Result<Shares, AllocError>
+    fn split_off(&self, x: Reg, to: &mut Duet) -> Result<PartRegisters, AllocError>
         requires known { AreKnown (self.now.first ∷ self.now.second ∷ []) to.old.next }
         requires room { AreLow to.old.next }
         ensures exact { IfOk result (λ y. Makes (split_off (sharing_of self.now.sharing) self.now.first self.now.second x) to.old y
@@ -114,14 +114,14 @@ impl Pair {
             self.first,
             Action::Apply(self.sharing.hide(), kept, x, at.first),
         ))?;
-        Ok(Shares {
+        Ok(PartRegisters {
             first: kept,
             second: at.second,
         })
     }
 
     /// The move of a word that both hosts have in clear: the first keeps its copy, and the second has 0.
-    pub fn adopt(&self, x: &Parts<Clear>, to: &mut Duet) -> Result<Shares, AllocError>
+    pub fn adopt(&self, x: &Parts<Clear>, to: &mut Duet) -> Result<PartRegisters, AllocError>
         requires known { AreKnown (self.now.first ∷ self.now.second ∷ []) to.old.next }
         requires room { AreLow to.old.next }
         ensures exact { IfOk result (λ y. Makes (adopted_shares self.now.first self.now.second (in_clear x.now)) to.old y to.new) }
@@ -130,11 +130,11 @@ impl Pair {
         let first = register_at(x, self.first);
         let second = to.reserve(self.second, 1);
         to.add(Act::Do(self.second, Action::Const(second, 0)))?;
-        Ok(Shares { first, second })
+        Ok(PartRegisters { first, second })
     }
 
     /// The move of a word to one of the two hosts, in clear.
-    pub fn show(&self, x: Shares, at: HostId, to: &mut Duet) -> Result<Reg, AllocError>
+    pub fn show(&self, x: PartRegisters, at: HostId, to: &mut Duet) -> Result<Reg, AllocError>
         requires known { AreKnown (self.now.first ∷ self.now.second ∷ []) to.old.next }
         requires room { AreLow to.old.next }
         ensures exact { IfOk result (λ y. Makes (shown_at (sharing_of self.now.sharing) self.now.first self.now.second x at) to.old
@@ -167,7 +167,7 @@ impl Pair {
     }
 
     /// The move of a word to copies in clear at both hosts.
-    pub fn show_all(&self, x: Shares, to: &mut Duet) -> Result<Shares, AllocError>
+    pub fn show_all(&self, x: PartRegisters, to: &mut Duet) -> Result<PartRegisters, AllocError>
         requires known { AreKnown (self.now.first ∷ self.now.second ∷ []) to.old.next }
         requires room { AreLow to.old.next }
         ensures exact { IfOk result (λ y. Makes (shown_to_both (sharing_of self.now.sharing) self.now.first self.now.second x)
@@ -175,7 +175,7 @@ impl Pair {
         ensures few { OnOk result (TakesAtMost 32 to.old.next to.new.next) }
     {
         let at = self.reserve(2, 2, to);
-        let word = Shares {
+        let word = PartRegisters {
             first: Reg(at.first.0 + 1),
             second: Reg(at.second.0 + 1),
         };
@@ -191,7 +191,7 @@ impl Pair {
     }
 
     /// A copy in fresh registers.
-    pub fn keep(&self, x: Shares, to: &mut Duet) -> Result<Shares, AllocError>
+    pub fn keep(&self, x: PartRegisters, to: &mut Duet) -> Result<PartRegisters, AllocError>
         requires known { AreKnown (self.now.first ∷ self.now.second ∷ []) to.old.next }
         requires room { AreLow to.old.next }
         ensures exact { IfOk result (λ y. Makes (kept_shares self.now.first self.now.second x) to.old y to.new) }
@@ -203,7 +203,12 @@ impl Pair {
     }
 
     /// Copies `x` into the registers of `kept`.
-    pub fn renew(&self, kept: Shares, x: Shares, to: &mut Duet) -> Result<(), AllocError>
+    pub fn renew(
+        &self,
+        kept: PartRegisters,
+        x: PartRegisters,
+        to: &mut Duet,
+    ) -> Result<(), AllocError>
         ensures { OnOk result (to.new ≡ appended (renewed_shares self.now.first self.now.second kept x) to.old) }
     {
         to.add(Act::Do(self.first, Action::Copy(kept.first, x.first)))?;
@@ -214,10 +219,10 @@ impl Pair {
     pub fn apply(
         &self,
         op: Binary,
-        x: Shares,
-        y: Shares,
+        x: PartRegisters,
+        y: PartRegisters,
         to: &mut Duet,
-    ) -> Result<Shares, AllocError>
+    ) -> Result<PartRegisters, AllocError>
         requires known { AreKnown (self.now.first ∷ self.now.second ∷ []) to.old.next }
         requires room { AreLow to.old.next }
         ensures exact { IfOk result (λ r. Makes (applied_shares op self.now.first self.now.second x y) to.old r to.new) }
@@ -237,16 +242,16 @@ impl Pair {
         &self,
         op: Binary,
         number: u32,
-        x: Shares,
+        x: PartRegisters,
         to: &mut Duet,
-    ) -> Result<Shares, AllocError>
+    ) -> Result<PartRegisters, AllocError>
         requires known { AreKnown (self.now.first ∷ self.now.second ∷ []) to.old.next }
         requires room { AreLow to.old.next }
         ensures exact { IfOk result (λ r. Makes (numbered_shares op number self.now.first self.now.second x) to.old r to.new) }
         ensures few { OnOk result (TakesAtMost 32 to.old.next to.new.next) }
     {
         let at = self.reserve(2, 2, to);
-        let word = Shares {
+        let word = PartRegisters {
             first: Reg(at.first.0 + 1),
             second: Reg(at.second.0 + 1),
         };

@@ -7,7 +7,7 @@ ghost use Rattle.vd_backend_sharing.specs.Sharings.{sharing_of};
 ghost use Rattle.vd_backend_sharing.specs.PairCalls.{AreLow, masking_from, unmasked, completed, product_shares, with_acts, masked_told};
 
 use crate::pair::Pair;
-use crate::shares::{Shares, Sharing};
+use crate::shares::{PartRegisters, Sharing};
 use std::alloc::AllocError;
 use vd_base::{HostId, Items};
 use vd_duet::Duet;
@@ -15,7 +15,12 @@ use vd_execution::{Act, Action, Reg};
 
 impl Pair {
     /// The product of two words, by one dealt item: of sums by a multiplication triple, and else, bit by bit, by a bit triple.
-    pub fn product(&self, x: Shares, y: Shares, to: &mut Duet) -> Result<Shares, AllocError>
+    pub fn product(
+        &self,
+        x: PartRegisters,
+        y: PartRegisters,
+        to: &mut Duet,
+    ) -> Result<PartRegisters, AllocError>
         requires known { AreKnown (self.now.first ∷ self.now.second ∷ []) to.old.next }
         requires room { AreLow to.old.next }
         ensures exact { IfOk result (λ r. Makes (product_shares (sharing_of self.now.sharing) self.now.first self.now.second x y)
@@ -27,14 +32,20 @@ impl Pair {
         unmask(self.sharing, self.first, at.first.0, to)?;
         complete(self.sharing, self.first, at.first.0, to)?;
         unmask(self.sharing, self.second, at.second.0, to)?;
-        Ok(Shares {
+        Ok(PartRegisters {
             first: Reg(at.first.0 + 14),
             second: Reg(at.second.0 + 12),
         })
     }
 
     /// Both hosts take an item, mask their operands by it and tell them to each other.
-    fn mask(&self, x: Shares, y: Shares, at: Shares, to: &mut Duet) -> Result<(), AllocError>
+    fn mask(
+        &self,
+        x: PartRegisters,
+        y: PartRegisters,
+        at: PartRegisters,
+        to: &mut Duet,
+    ) -> Result<(), AllocError>
         requires low_first { at.first.0 < 4000000016 }
         requires low_second { at.second.0 < 4000000016 }
         ensures { OnOk result (to.new ≡ appended (Masked (sharing_of self.now.sharing)

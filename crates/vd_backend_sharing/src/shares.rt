@@ -47,7 +47,7 @@ impl Sharing {
 
 /// The registers of the two parts of a word.
 #[derive(Clone, Copy, PartialEq, Eq)]
-pub struct Shares {
+pub struct PartRegisters {
     pub first: Reg,
     pub second: Reg,
 }

@@ -21,7 +21,7 @@ use crate::commitments::{same_bound, show_both, show_bound};
 use crate::pairs::{Bits, Sums};
 use crate::shares::{bits, of_bits, of_sums, sums};
 use std::alloc::{AllocError, Global};
-use vd_backend_sharing::Shares;
+use vd_backend_sharing::PartRegisters;
 use vd_base::{HostId, HostSet, Items, Proto};
 use vd_bits::XorPair;
 use vd_circuit::CircuitPair;
@@ -97,15 +97,15 @@ fn copies_at(hosts: &[HostId], x: &Parts<Clear>, alloc: Global) -> Result<Parts<
 }
 
 /// The registers of the first two parts.
-fn shares(x: &Parts<Clear>) -> Shares
+fn shares(x: &Parts<Clear>) -> PartRegisters
     ensures { result ≡ shares_of (in_clear x.now) }
 {
     match x.as_slice() {
-        [first, second, ..] => Shares {
+        [first, second, ..] => PartRegisters {
             first: first.1.0,
             second: second.1.0,
         },
-        _ => Shares {
+        _ => PartRegisters {
             first: Reg(0),
             second: Reg(0),
         },

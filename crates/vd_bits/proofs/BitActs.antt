@@ -12,7 +12,7 @@ use Rattle.vd_duet.specs.Calls.{Places}
 use Rattle.vd_duet.specs.Acting.{is_either, acts_in, acts_at, is_negation, apply_at, ActsWhereItSays}
 use Rattle.vd_backend_sharing.specs.Computing.{HasCircuit}
 use Rattle.vd_backend_sharing.specs.Gates.{Gate, And, Xor, Shl, Shr, Not, Flip, Lowest, Mask, gates_of}
-use Rattle.vd_backend_sharing.specs.declared.shares.Shares.{Shares}
+use Rattle.vd_backend_sharing.specs.declared.shares.PartRegisters.{PartRegisters}
 use Rattle.vd_backend_sharing.specs.PairCalls.{shares_of, pair_calls}
 use Rattle.vd_backend_sharing.proofs.Front.{applied_acts, numbered_acts, product_acts, pair_acts}
 use Rattle.vd_bits.specs.BitCalls.{parts_at, gate_shares, gates_shares, circuit_shares, computed, bit_serves, bit_calls}
@@ -42,7 +42,7 @@ four false true = refl
 four false false = refl
 
 module _ (a b : HostId) (h : ℕ) where
-  gate_acts : (g : Gate) (words : List Shares) (next : List ℕ) → acts_at (gate_shares a b g words next).gadgets h ≡ gate_at (nat_eq h a.0) (nat_eq h b.0) g
+  gate_acts : (g : Gate) (words : List PartRegisters) (next : List ℕ) → acts_at (gate_shares a b g words next).gadgets h ≡ gate_at (nat_eq h a.0) (nat_eq h b.0) g
   gate_acts (And x y) words next = product_acts a b h ByXors (parts_at words x) (parts_at words y) next
   gate_acts (Xor x y) words next = applied_acts a b h binary.Xor (parts_at words x) (parts_at words y) next
   gate_acts (Shl k x) words next = both (nat_eq h a.0) (nat_eq h b.0)
@@ -52,7 +52,7 @@ module _ (a b : HostId) (h : ℕ) where
   gate_acts (Lowest x) words next = numbered_acts a b h binary.And 1 (parts_at words x) next
   gate_acts (Mask x) words next = four (nat_eq h a.0) (nat_eq h b.0)
 
-  gates_act : (gates : List Gate) (words : List Shares) (next : List ℕ)
+  gates_act : (gates : List Gate) (words : List PartRegisters) (next : List ℕ)
       → acts_at (gates_shares a b gates words next).gadgets h ≡ gates_at (nat_eq h a.0) (nat_eq h b.0) gates
   gates_act [] words next = refl
   gates_act (g ∷ gates) words next =

@@ -19,7 +19,7 @@ use Rattle.vd_duet.proofs.Front.{orderly_wider}
 use Rattle.vd_backend_sharing.specs.Computing.{HasCircuit}
 use Rattle.vd_backend_sharing.specs.Gates.{gates_of, after, newest}
 use Rattle.vd_backend_sharing.proofs.Front.{gates_compute, in_order, few}
-use Rattle.vd_backend_sharing.specs.declared.shares.Shares.{Shares}
+use Rattle.vd_backend_sharing.specs.declared.shares.PartRegisters.{PartRegisters}
 use Rattle.vd_backend_sharing.specs.PairCalls.{shares_of, places_at, at_hosts, pair_calls}
 use Rattle.vd_backend_sharing.proofs.Front.{parts_of, parts_named, pair_laws}
 use Rattle.vd_bits.specs.BitCalls.{gates_shares, circuit_shares, bit_serves, bit_calls}
@@ -27,7 +27,7 @@ use Rattle.vd_bits.proofs.Places.{AreParts, AreFrom, same_count, from_wider}
 use Rattle.vd_bits.proofs.Lists.{bits_have}
 use Rattle.vd_bits.proofs.CircuitGives.{steps, steps_are, gates_give}
 
-parts_are_words : (a b : HostId) (next : List ℕ) (w : Hosts) → IsSound w → (xs : List Shares) (vs : List ℕ) → AreParts a b next w xs vs → (i : ℕ) → IsWord (slice_index vs i)
+parts_are_words : (a b : HostId) (next : List ℕ) (w : Hosts) → IsSound w → (xs : List PartRegisters) (vs : List ℕ) → AreParts a b next w xs vs → (i : ℕ) → IsWord (slice_index vs i)
 parts_are_words a b next w sound [] [] p i = lit< tt
 parts_are_words a b next w sound (x ∷ xs) (v ∷ vs) p zero =
     subst (λ (z : ℕ). z < 2 ^ 32) p.0.word (xor_lt 32 ((w a.0).registers x.first.0) ((w b.0).registers x.second.0) (sound.words a.0 x.first.0) (sound.words b.0 x.second.0))
@@ -35,7 +35,7 @@ parts_are_words a b next w sound (x ∷ xs) (v ∷ vs) p (suc i) = parts_are_wor
 parts_are_words a b next w sound [] (v ∷ vs) p i = absurd p
 parts_are_words a b next w sound (x ∷ xs) [] p i = absurd p
 
-module _ (a b : HostId) (serves : Op → Bool) (apply : Op → List Places → List ℕ → Made Shares) (next : List ℕ) (w : Hosts) where
+module _ (a b : HostId) (serves : Op → Bool) (apply : Op → List Places → List ℕ → Made PartRegisters) (next : List ℕ) (w : Hosts) where
   operands_parts : (xs : List Places) (vs : List ℕ) → Operands (pair_calls ByXors a b serves apply) next w xs vs → AreParts a b next w (map shares_of xs) vs
   operands_parts [] [] o = tt
   operands_parts (x ∷ xs) (v ∷ vs) o = (parts_of a b serves apply ByXors next w x v o.0, operands_parts xs vs o.1)
@@ -56,7 +56,7 @@ gives_wider {made = made} count count' t next source w P more g =
     record { orderly = orderly_wider count count' next source source made more (λ h r s. s) g.orderly; reached = g.reached; leads = g.leads; is = g.is }
 
 -- whatever two hosts that share by exclusive or serve
-module _ (a b : HostId) (apart : a.0 ≢ b.0) (serves : Op → Bool) (apply : Op → List Places → List ℕ → Made Shares) (t : Tape) (next : List ℕ) (w : Hosts)
+module _ (a b : HostId) (apart : a.0 ≢ b.0) (serves : Op → Bool) (apply : Op → List Places → List ℕ → Made PartRegisters) (t : Tape) (next : List ℕ) (w : Hosts)
     (ready : IsReady (pair_calls ByXors a b serves apply) t next w) (o : Op) (has : HasCircuit o) (xs : List Places) (vs : List ℕ) (count : length xs ≡ arity o)
     (os : Operands (pair_calls ByXors a b serves apply) next w xs vs) where
   pub circuit_gives_few : Gives 1024 t next (IsInOne xs) (at_hosts a b (circuit_shares a b o xs next)) w

@@ -11,7 +11,7 @@ use Rattle.vd_duet.specs.Calls.{Places, Made}
 use Rattle.vd_duet.specs.Laws.{nowhere, IsIn, Gives, StandFor, IsReady}
 use Rattle.vd_duet.proofs.Front.{leads_nothing, orderly_still, Since}
 use Rattle.vd_backend_sharing.specs.Gates.{Gate, taken_by, are_in_order, after, newest, made_by}
-use Rattle.vd_backend_sharing.specs.declared.shares.Shares.{Shares}
+use Rattle.vd_backend_sharing.specs.declared.shares.PartRegisters.{PartRegisters}
 use Rattle.vd_backend_sharing.specs.PairCalls.{places_at, at_hosts, pair_calls}
 use Rattle.vd_backend_sharing.proofs.Front.{both_first, both_second, Parts, stands_by, gives_then}
 use Rattle.vd_bits.specs.BitCalls.{parts_at, newest_of, gate_shares, gates_shares}
@@ -27,25 +27,25 @@ pub steps_are : (gates : List Gate) → steps gates ≡ 32 * length gates
 steps_are [] = refl
 steps_are (g ∷ gates) = (let e = steps_are gates in omega (arith, e))
 
-one_longer : (words : List Shares) (x : Shares) (n : ℕ) → n ≡ length words → suc n ≡ length (words ++ x ∷ [])
+one_longer : (words : List PartRegisters) (x : PartRegisters) (n : ℕ) → n ≡ length words → suc n ≡ length (words ++ x ∷ [])
 one_longer words x n e = let l = length-append words (x ∷ []) in omega (arith, l, e)
 
-module _ (a b : HostId) (apart : a.0 ≢ b.0) (serves : Op → Bool) (apply : Op → List Places → List ℕ → Made Shares) (t : Tape) where
-  abbrev GivesNewest : List Gate → List ℕ → Hosts → (ℕ → ℕ → Type 0) → List Shares → List ℕ → Type 0
+module _ (a b : HostId) (apart : a.0 ≢ b.0) (serves : Op → Bool) (apply : Op → List Places → List ℕ → Made PartRegisters) (t : Tape) where
+  abbrev GivesNewest : List Gate → List ℕ → Hosts → (ℕ → ℕ → Type 0) → List PartRegisters → List ℕ → Type 0
   GivesNewest gates next w source words vs =
       Gives (steps gates) t next source (at_hosts a b (gates_shares a b gates words next)) w
       (λ u. StandFor (pair_calls ByXors a b serves apply) u (places_at a b (gates_shares a b gates words next).given) (newest (after gates vs)))
 
-  newest_there : (next : List ℕ) (w : Hosts) (words : List Shares) (vs : List ℕ) → AreParts a b next w words vs → 0 < length words
+  newest_there : (next : List ℕ) (w : Hosts) (words : List PartRegisters) (vs : List ℕ) → AreParts a b next w words vs → 0 < length words
       → Parts ByXors a b next w (newest_of words) (newest vs)
   newest_there next w words vs p some =
       subst (λ (n : ℕ). Parts ByXors a b next w (newest_of words) (slice_index vs (n - 1))) (same_count a b next w words vs p)
       (parts_there a b next w words vs p (length words - 1) (omega (arith, some)))
 
-  last_gives : (next : List ℕ) (w : Hosts) → IsReady (pair_calls ByXors a b serves apply) t next w → (source : ℕ → ℕ → Type 0) (words : List Shares) (vs : List ℕ)
+  last_gives : (next : List ℕ) (w : Hosts) → IsReady (pair_calls ByXors a b serves apply) t next w → (source : ℕ → ℕ → Type 0) (words : List PartRegisters) (vs : List ℕ)
       → AreParts a b next w words vs → AreFrom source a b words → 0 < length words → GivesNewest [] next w source words vs
   last_gives next w ready source words vs parts from some =
-      let x : Shares = newest_of words in
+      let x : PartRegisters = newest_of words in
       let p : Parts ByXors a b next w (newest_of words) (newest vs) = newest_there next w words vs parts some in
       let f = from_there source a b words from (length words - 1) (omega (arith, some)) in
       record {
@@ -63,12 +63,12 @@ module _ (a b : HostId) (apart : a.0 ≢ b.0) (serves : Op → Bool) (apply : Op
       named f h r (inr (inr i)) = absurd i
 
   pub gates_give : (gates : List Gate) (next : List ℕ) (w : Hosts) → IsReady (pair_calls ByXors a b serves apply) t next w → (source : ℕ → ℕ → Type 0)
-      (words : List Shares) (vs : List ℕ) → AreParts a b next w words vs → AreFrom source a b words → 0 < length words + length gates
+      (words : List PartRegisters) (vs : List ℕ) → AreParts a b next w words vs → AreFrom source a b words → 0 < length words + length gates
       → (n : ℕ) → n ≡ length words → are_in_order n gates ≡ true → GivesNewest gates next w source words vs
   gates_give [] next w ready source words vs parts from some n count order = last_gives next w ready source words vs parts from (omega (arith, some))
   gates_give (g ∷ gates) next w ready source words vs parts from some n count order =
-      let made : Made Shares = gate_shares a b g words next in
-      let rest : Made Shares = gates_shares a b gates (words ++ made.given ∷ []) made.next in
+      let made : Made PartRegisters = gate_shares a b g words next in
+      let rest : Made PartRegisters = gates_shares a b gates (words ++ made.given ∷ []) made.next in
       let there : list_all (λ place. nat_lt place (length words)) (taken_by g) ≡ true =
       subst (λ (m : ℕ). list_all (λ place. nat_lt place m) (taken_by g) ≡ true) count (both_first (list_all (λ place. nat_lt place n) (taken_by g)) (are_in_order (suc n) gates) order) in
       let one = gate_gives a b apart serves apply t next w ready source g words vs parts from there in

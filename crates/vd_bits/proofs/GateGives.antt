@@ -18,7 +18,7 @@ use Rattle.vd_duet.specs.Laws.{Gives, GivesWord, StandFor, IsReady}
 use Rattle.vd_backend_sharing.specs.Circuits.{shl, shr, mask_of}
 use Rattle.vd_backend_sharing.specs.Gates.{Gate, And, Xor, Shl, Shr, Not, Flip, Lowest, Mask, made_by, taken_by}
 use Rattle.vd_backend_sharing.proofs.Front.{xor_past, xor_turn, shl_each, shr_each, mask_each, bit_product}
-use Rattle.vd_backend_sharing.specs.declared.shares.Shares.{Shares}
+use Rattle.vd_backend_sharing.specs.declared.shares.PartRegisters.{PartRegisters}
 use Rattle.vd_backend_sharing.specs.Sharings.{joined}
 use Rattle.vd_backend_sharing.specs.PairCalls.{two, places_at, at_hosts, pair_calls}
 use Rattle.vd_backend_sharing.proofs.Front.{Side, First, Second, Old, New, Deed, Number, Applied, ShiftedLeft, ShiftedRight, both_first, both_second, low_of, fresh_gives, one_gives, Parts, stands_by, both_known, ItemsMultiply, applied_gives, numbered_gives, product_gives}
@@ -53,12 +53,12 @@ tightened count count' t next source w P few g = record {
 masking : Side → List Deed
 masking s = Number s 1 ∷ Applied s binary.And (New 0) (Old 0) ∷ Number s 0 ∷ Applied s binary.Sub (New 2) (New 1) ∷ []
 
-module _ (a b : HostId) (apart : a.0 ≢ b.0) (serves : Op → Bool) (apply : Op → List Places → List ℕ → Made Shares) (t : Tape) (next : List ℕ) (w : Hosts)
+module _ (a b : HostId) (apart : a.0 ≢ b.0) (serves : Op → Bool) (apply : Op → List Places → List ℕ → Made PartRegisters) (t : Tape) (next : List ℕ) (w : Hosts)
     (ready : IsReady (pair_calls ByXors a b serves apply) t next w) (source : ℕ → ℕ → Type 0) where
-  abbrev GivesParts : Made Shares → ℕ → Type 0
+  abbrev GivesParts : Made PartRegisters → ℕ → Type 0
   GivesParts made v = GivesWord (pair_calls ByXors a b serves apply) t next source (at_hosts a b made) w v
 
-  shifted_left_gives : (k : ℕ) (x : Shares) (v : ℕ) → Parts ByXors a b next w x v → GivesParts (shifted_left k a b x next) (shl v k)
+  shifted_left_gives : (k : ℕ) (x : PartRegisters) (v : ℕ) → Parts ByXors a b next w x v → GivesParts (shifted_left k a b x next) (shl v k)
   shifted_left_gives k x v p =
       let known = both_known a b serves apply ByXors next ready.known in
       fresh_gives t ready.deal next w ready.sound a b apart known.0 known.1 (x.first ∷ []) (x.second ∷ []) (p.first_low, tt) (p.second_low, tt) most_taken 1 1 source
@@ -69,7 +69,7 @@ module _ (a b : HostId) (apart : a.0 ≢ b.0) (serves : Op → Bool) (apply : Op
       (λ u h. stands_by a b serves apply ByXors u (register (slice_index next a.0)) (register (slice_index next b.0)) (shl v k)
       (ap₂ (joined ByXors) h.0 h.1.0 ∙ shl_each k ((w a.0).registers x.first.0) ((w b.0).registers x.second.0) ∙ ap (λ (z : ℕ). shl z k) p.word))
 
-  shifted_right_gives : (k : ℕ) (x : Shares) (v : ℕ) → Parts ByXors a b next w x v → GivesParts (shifted_right k a b x next) (shr v k)
+  shifted_right_gives : (k : ℕ) (x : PartRegisters) (v : ℕ) → Parts ByXors a b next w x v → GivesParts (shifted_right k a b x next) (shr v k)
   shifted_right_gives k x v p =
       let known = both_known a b serves apply ByXors next ready.known in
       fresh_gives t ready.deal next w ready.sound a b apart known.0 known.1 (x.first ∷ []) (x.second ∷ []) (p.first_low, tt) (p.second_low, tt) most_taken 1 1 source
@@ -80,7 +80,7 @@ module _ (a b : HostId) (apart : a.0 ≢ b.0) (serves : Op → Bool) (apply : Op
       (λ u h. stands_by a b serves apply ByXors u (register (slice_index next a.0)) (register (slice_index next b.0)) (shr v k)
       (ap₂ (joined ByXors) h.0 h.1.0 ∙ shr_each k ((w a.0).registers x.first.0) ((w b.0).registers x.second.0) ∙ ap (λ (z : ℕ). shr z k) p.word))
 
-  turned_gives : (k : ℕ) → k < 2 ^ 32 → (x : Shares) (v : ℕ) → source b.0 x.second.0 → Parts ByXors a b next w x v
+  turned_gives : (k : ℕ) → k < 2 ^ 32 → (x : PartRegisters) (v : ℕ) → source b.0 x.second.0 → Parts ByXors a b next w x v
       → GivesParts (turned_first k a b x next) (bit_xor v k)
   turned_gives k small x v named p =
       let known = both_known a b serves apply ByXors next ready.known in
@@ -91,7 +91,7 @@ module _ (a b : HostId) (apart : a.0 ≢ b.0) (serves : Op → Bool) (apply : Op
       (λ u h. stands_by a b serves apply ByXors u (register (slice_index next a.0 + 1)) x.second (bit_xor v k)
       (ap₂ (joined ByXors) h.0 h.1.0 ∙ xor_past k ((w a.0).registers x.first.0) ((w b.0).registers x.second.0) ∙ ap (λ (z : ℕ). bit_xor z k) p.word))
 
-  masked_gives : (x : Shares) (v : ℕ) → Parts ByXors a b next w x v → GivesParts (masked_shares a b x next) (mask_of v)
+  masked_gives : (x : PartRegisters) (v : ℕ) → Parts ByXors a b next w x v → GivesParts (masked_shares a b x next) (mask_of v)
   unfolding masking
   masked_gives x v p =
       let known = both_known a b serves apply ByXors next ready.known in
@@ -106,7 +106,7 @@ module _ (a b : HostId) (apart : a.0 ≢ b.0) (serves : Op → Bool) (apply : Op
 
   -- ---- all gates
 
-  gate_gives_word : (g : Gate) (words : List Shares) (vs : List ℕ) → AreParts a b next w words vs → AreFrom source a b words
+  gate_gives_word : (g : Gate) (words : List PartRegisters) (vs : List ℕ) → AreParts a b next w words vs → AreFrom source a b words
       → list_all (λ place. nat_lt place (length words)) (taken_by g) ≡ true → GivesParts (gate_shares a b g words next) (made_by g vs)
   gate_gives_word (And x y) words vs p f i =
       let x_low : x < length words = (two_low x y (length words) i).0 in
@@ -141,7 +141,7 @@ module _ (a b : HostId) (apart : a.0 ≢ b.0) (serves : Op → Bool) (apply : Op
       masked_gives (parts_at words x) (slice_index vs x) (parts_there a b next w words vs p x (one_low x (length words) i))
 
   -- a gate takes few registers
-  pub gate_gives : (g : Gate) (words : List Shares) (vs : List ℕ) → AreParts a b next w words vs → AreFrom source a b words
+  pub gate_gives : (g : Gate) (words : List PartRegisters) (vs : List ℕ) → AreParts a b next w words vs → AreFrom source a b words
       → list_all (λ place. nat_lt place (length words)) (taken_by g) ≡ true
       → Gives 32 t next source (at_hosts a b (gate_shares a b g words next)) w
       (λ u. StandFor (pair_calls ByXors a b serves apply) u (places_at a b (gate_shares a b g words next).given) (made_by g vs))

@@ -11,7 +11,7 @@ use Rattle.vd_execution.specs.Text.{register}
 use Rattle.vd_duet.specs.Builder.{next_at, taken}
 use Rattle.vd_duet.specs.Calls.{Places, Made, Calls}
 use Rattle.vd_backend_sharing.specs.Gates.{Gate, And, Xor, Shl, Shr, Not, Flip, Lowest, Mask, gates_of}
-use Rattle.vd_backend_sharing.specs.declared.shares.Shares.{Shares}
+use Rattle.vd_backend_sharing.specs.declared.shares.PartRegisters.{PartRegisters}
 use Rattle.vd_backend_sharing.specs.PairCalls.{AreUnder, two, fresh_at, applied_shares, numbered_shares, product_shares, shares_of, at_hosts, pair_calls}
 use Rattle.vd_bits.specs.declared.gates.Gate.{Gate as Written}
 use Rattle.vd_bits.specs.declared.gates.Gate.TheVariants as gate
@@ -31,7 +31,7 @@ abbrev pub gates_in : List Written → List Gate
 gates_in gates = map gate_of gates
 
 -- the parts of the word at a place; one that is missing has the registers 0
-abbrev pub parts_at : List Shares → ℕ → Shares
+abbrev pub parts_at : List PartRegisters → ℕ → PartRegisters
 parts_at words place = slice_index_or words place (two 0 0)
 
 -- room for the registers of a circuit
@@ -41,18 +41,18 @@ HasCircuitRoom next = AreUnder 3999990000 next
 -- ---- one gate
 
 -- each host shifts its part
-abbrev pub shifted_left : ℕ → HostId → HostId → Shares → List ℕ → Made Shares
+abbrev pub shifted_left : ℕ → HostId → HostId → PartRegisters → List ℕ → Made PartRegisters
 shifted_left k a b x =
     fresh_at a 1 b 1 (λ n m. two n m)
     (λ n m. Alone a (action.Shl (register n) x.first k) ∷ Alone b (action.Shl (register m) x.second k) ∷ [])
 
-abbrev pub shifted_right : ℕ → HostId → HostId → Shares → List ℕ → Made Shares
+abbrev pub shifted_right : ℕ → HostId → HostId → PartRegisters → List ℕ → Made PartRegisters
 shifted_right k a b x =
     fresh_at a 1 b 1 (λ n m. two n m)
     (λ n m. Alone a (action.Shr (register n) x.first k) ∷ Alone b (action.Shr (register m) x.second k) ∷ [])
 
 -- the first host turns the bits of a number in its part; the second keeps its part
-abbrev pub turned_first : ℕ → HostId → HostId → Shares → List ℕ → Made Shares
+abbrev pub turned_first : ℕ → HostId → HostId → PartRegisters → List ℕ → Made PartRegisters
 turned_first k a b x next =
     let n : Reg = next_at next a in
     let turned : Reg = register (n.0 + 1) in
@@ -68,11 +68,11 @@ mask_at h x n =
     Alone h (action.Const (register n) 1) ∷ Alone h (action.Apply binary.And (register (n + 1)) (register n) x)
     ∷ Alone h (action.Const (register (n + 2)) 0) ∷ Alone h (action.Apply binary.Sub (register (n + 3)) (register (n + 2)) (register (n + 1))) ∷ []
 
-abbrev pub masked_shares : HostId → HostId → Shares → List ℕ → Made Shares
+abbrev pub masked_shares : HostId → HostId → PartRegisters → List ℕ → Made PartRegisters
 masked_shares a b x = fresh_at a 4 b 4 (λ n m. two (n + 3) (m + 3)) (λ n m. mask_at a x.first n ++ mask_at b x.second m)
 
 -- what a gate makes of the words that are there
-abbrev pub gate_shares : HostId → HostId → Gate → List Shares → List ℕ → Made Shares
+abbrev pub gate_shares : HostId → HostId → Gate → List PartRegisters → List ℕ → Made PartRegisters
 gate_shares a b (And x y) words next = product_shares ByXors a b (parts_at words x) (parts_at words y) next
 gate_shares a b (Xor x y) words next = applied_shares binary.Xor a b (parts_at words x) (parts_at words y) next
 gate_shares a b (Shl k x) words next = shifted_left k a b (parts_at words x) next
@@ -84,15 +84,15 @@ gate_shares a b (Mask x) words next = masked_shares a b (parts_at words x) next
 
 -- ---- gates one after the other
 
-abbrev pub newest_of : List Shares → Shares
+abbrev pub newest_of : List PartRegisters → PartRegisters
 newest_of words = parts_at words (length words - 1)
 
 -- what the last gate makes
-abbrev pub gates_shares : HostId → HostId → List Gate → List Shares → List ℕ → Made Shares
+abbrev pub gates_shares : HostId → HostId → List Gate → List PartRegisters → List ℕ → Made PartRegisters
 gates_shares a b [] words next = record { given = newest_of words; gadgets = []; next = next }
 gates_shares a b (g ∷ gates) words next =
-    let one : Made Shares = gate_shares a b g words next in
-    let rest : Made Shares = gates_shares a b gates (words ++ one.given ∷ []) one.next in
+    let one : Made PartRegisters = gate_shares a b g words next in
+    let rest : Made PartRegisters = gates_shares a b gates (words ++ one.given ∷ []) one.next in
     record { given = rest.given; gadgets = one.gadgets ++ rest.gadgets; next = rest.next }
 
 abbrev pub circuit_made : HostId → HostId → List Gate → List Places → List ℕ → Made Places
@@ -101,7 +101,7 @@ circuit_made a b gates xs next = at_hosts a b (gates_shares a b gates (map share
 -- ---- as calls of a back end
 
 -- the gates of an operation, of operands at the first places
-abbrev pub circuit_shares : HostId → HostId → Op → List Places → List ℕ → Made Shares
+abbrev pub circuit_shares : HostId → HostId → Op → List Places → List ℕ → Made PartRegisters
 circuit_shares a b o xs next = gates_shares a b (gates_of o) (map shares_of xs) next
 
 abbrev pub computed : HostId → HostId → Op → List Places → List ℕ → Made Places

@@ -6,20 +6,20 @@ ghost use Rattle.vd_backend_sharing.specs.PairCalls.{AreLow};
 ghost use Rattle.vd_bits.specs.BitCalls.{parts_at, shifted_left, shifted_right, turned_first, masked_shares, mask_at};
 
 use std::alloc::AllocError;
-use vd_backend_sharing::{Pair, Shares};
+use vd_backend_sharing::{Pair, PartRegisters};
 use vd_base::HostId;
 use vd_duet::Duet;
 use vd_execution::{Act, Action, Binary, Reg};
 
 /// The parts of the word at a place.
 #[tactic(auto, using(crate::proofs::Places::part_there, crate::proofs::Places::part_past))]
-pub(crate) fn part(words: &[Shares], place: usize) -> Shares
+pub(crate) fn part(words: &[PartRegisters], place: usize) -> PartRegisters
     ensures { result ≡ parts_at words.now place }
 {
     if place < words.len() {
         words[place]
     } else {
-        Shares {
+        PartRegisters {
             first: Reg(0),
             second: Reg(0),
         }
@@ -30,9 +30,9 @@ pub(crate) fn part(words: &[Shares], place: usize) -> Shares
 pub(crate) fn shift_left(
     pair: &Pair,
     amount: u32,
-    x: Shares,
+    x: PartRegisters,
     to: &mut Duet,
-) -> Result<Shares, AllocError>
+) -> Result<PartRegisters, AllocError>
     requires known { AreKnown (pair.now.first ∷ pair.now.second ∷ []) to.old.next }
     requires room { AreLow to.old.next }
     ensures exact { IfOk result (λ y. Makes (shifted_left amount pair.now.first pair.now.second x) to.old y to.new) }
@@ -48,9 +48,9 @@ pub(crate) fn shift_left(
 pub(crate) fn shift_right(
     pair: &Pair,
     amount: u32,
-    x: Shares,
+    x: PartRegisters,
     to: &mut Duet,
-) -> Result<Shares, AllocError>
+) -> Result<PartRegisters, AllocError>
     requires known { AreKnown (pair.now.first ∷ pair.now.second ∷ []) to.old.next }
     requires room { AreLow to.old.next }
     ensures exact { IfOk result (λ y. Makes (shifted_right amount pair.now.first pair.now.second x) to.old y to.new) }
@@ -63,7 +63,12 @@ pub(crate) fn shift_right(
 }
 
 /// The first host turns the bits of a number in its part; the second keeps its part.
-pub(crate) fn turn(pair: &Pair, bits: u32, x: Shares, to: &mut Duet) -> Result<Shares, AllocError>
+pub(crate) fn turn(
+    pair: &Pair,
+    bits: u32,
+    x: PartRegisters,
+    to: &mut Duet,
+) -> Result<PartRegisters, AllocError>
     requires known { AreKnown (pair.now.first ∷ pair.now.second ∷ []) to.old.next }
     requires room { AreLow to.old.next }
     ensures exact { IfOk result (λ y. Makes (turned_first bits pair.now.first pair.now.second x) to.old y to.new) }
@@ -76,14 +81,18 @@ pub(crate) fn turn(pair: &Pair, bits: u32, x: Shares, to: &mut Duet) -> Result<S
         pair.first,
         Action::Apply(Binary::Xor, turned, x.first, number),
     ))?;
-    Ok(Shares {
+    Ok(PartRegisters {
         first: turned,
         second: x.second,
     })
 }
 
 /// Each host makes all bits of its part as the lowest.
-pub(crate) fn mask(pair: &Pair, x: Shares, to: &mut Duet) -> Result<Shares, AllocError>
+pub(crate) fn mask(
+    pair: &Pair,
+    x: PartRegisters,
+    to: &mut Duet,
+) -> Result<PartRegisters, AllocError>
     requires known { AreKnown (pair.now.first ∷ pair.now.second ∷ []) to.old.next }
     requires room { AreLow to.old.next }
     ensures exact { IfOk result (λ y. Makes (masked_shares pair.now.first pair.now.second x) to.old y to.new) }
@@ -92,7 +101,7 @@ pub(crate) fn mask(pair: &Pair, x: Shares, to: &mut Duet) -> Result<Shares, Allo
     let at = pair.reserve(4, 4, to);
     mask_part(pair.first, x.first, at.first.0, to)?;
     mask_part(pair.second, x.second, at.second.0, to)?;
-    Ok(Shares {
+    Ok(PartRegisters {
         first: Reg(at.first.0 + 3),
         second: Reg(at.second.0 + 3),
     })

@@ -12,7 +12,7 @@ use crate::circuits::{bit_circuit, difference_circuit, sum_circuit};
 use crate::gates::Gate;
 use crate::steps::{mask, part, shift_left, shift_right, turn};
 use std::alloc::{AllocError, Global};
-use vd_backend_sharing::{Pair, Shares, Sharing};
+use vd_backend_sharing::{Pair, PartRegisters, Sharing};
 use vd_base::{HostId, Items, Op, Proto};
 use vd_duet::{Args, Backend, Clear, Duet, Parts};
 use vd_execution::{Binary, Reg};
@@ -36,7 +36,7 @@ impl XorPair {
         }
     }
 
-    fn parts(&self, x: Shares, alloc: Global) -> Result<Parts<XorShare>, AllocError>
+    fn parts(&self, x: PartRegisters, alloc: Global) -> Result<Parts<XorShare>, AllocError>
         ensures { IfOk result (λ y. parts_of y ≡ places_at self.now.0 self.now.1 x) }
     {
         Ok(Items::from_slice(
@@ -45,7 +45,7 @@ impl XorPair {
         )?)
     }
 
-    fn copies(&self, x: Shares, alloc: Global) -> Result<Parts<Clear>, AllocError>
+    fn copies(&self, x: PartRegisters, alloc: Global) -> Result<Parts<Clear>, AllocError>
         ensures { IfOk result (λ y. in_clear y ≡ places_at self.now.0 self.now.1 x) }
     {
         Ok(Items::from_slice(
@@ -55,7 +55,7 @@ impl XorPair {
     }
 
     /// What a gate makes of the words that are there.
-    fn emit(&self, gate: Gate, words: &[Shares], to: &mut Duet) -> Result<Shares, AllocError>
+    fn emit(&self, gate: Gate, words: &[PartRegisters], to: &mut Duet) -> Result<PartRegisters, AllocError>
         requires known { AreKnown (self.now.0 ∷ self.now.1 ∷ []) to.old.next }
         requires room { AreLow to.old.next }
         ensures exact { IfOk result (λ x. Makes (gate_shares self.now.0 self.now.1 (gate_of gate) words.now) to.old x to.new) }
@@ -75,7 +75,7 @@ impl XorPair {
     }
 
     /// What the last of some gates makes, of words that are there before the first.
-    fn run(&self, gates: &[Gate], words: Items<Shares>, to: &mut Duet) -> Result<Shares, AllocError>
+    fn run(&self, gates: &[Gate], words: Items<PartRegisters>, to: &mut Duet) -> Result<PartRegisters, AllocError>
         requires known { AreKnown (self.now.0 ∷ self.now.1 ∷ []) to.old.next }
         requires room { HasCircuitRoom to.old.next }
         requires short { length gates.now ≤ 31 }
@@ -170,15 +170,15 @@ impl XorPair {
 }
 
 /// The registers of the two parts of a word.
-fn shares(x: &Parts<XorShare>) -> Shares
+fn shares(x: &Parts<XorShare>) -> PartRegisters
     ensures { result ≡ shares_of (parts_of x.now) }
 {
     match x.as_slice() {
-        [first, second, ..] => Shares {
+        [first, second, ..] => PartRegisters {
             first: first.1.0,
             second: second.1.0,
         },
-        _ => Shares {
+        _ => PartRegisters {
             first: Reg(0),
             second: Reg(0),
         },
@@ -186,7 +186,7 @@ fn shares(x: &Parts<XorShare>) -> Shares
 }
 
 /// The registers of the two parts of each operand.
-fn words_of(args: &Args<XorShare>, alloc: Global) -> Result<Items<Shares>, AllocError>
+fn words_of(args: &Args<XorShare>, alloc: Global) -> Result<Items<PartRegisters>, AllocError>
     ensures { IfOk result (λ words. words ≡ map shares_of (all_parts_of args.now)) }
 {
     let mut words = Items::new(alloc);

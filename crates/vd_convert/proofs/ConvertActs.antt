@@ -5,7 +5,7 @@ use Rattle.vd_base.specs.declared.ids.HostId.{HostId}
 use Rattle.vd_base.specs.declared.operations.Op.TheVariants as op
 use Rattle.vd_duet.specs.Acting.{is_either, acts_in, acts_at}
 use Rattle.vd_duet.specs.Calls.{Places, Made}
-use Rattle.vd_backend_sharing.specs.declared.shares.Shares.{Shares}
+use Rattle.vd_backend_sharing.specs.declared.shares.PartRegisters.{PartRegisters}
 use Rattle.vd_backend_sharing.specs.PairCalls.{shares_of, places_at}
 use Rattle.vd_bits.specs.BitCalls.{circuit_shares, computed, bit_serves}
 use Rattle.vd_bits.proofs.Front.{computed_acts}
@@ -37,15 +37,15 @@ conversions_act = record {
   to_bits = λ a b x next h.
       let p : Bool = nat_eq h a.0 in
       let q : Bool = nat_eq h b.0 in
-      let words : Made (Shares × Shares) = masked_parts a b (shares_of x) next in
+      let words : Made (PartRegisters × PartRegisters) = masked_parts a b (shares_of x) next in
       let xs : List Places = places_at a b words.given.0 ∷ places_at a b words.given.1 ∷ [] in
       list_any-append (acts_in h) words.gadgets (computed a b op.Add xs words.next).gadgets
       ∙ ap₂ (λ (i j : Bool). i || j) (masked_first (nat_eq h a.0) (nat_eq h b.0)) (computed_acts a b op.Add refl xs words.next h)
       ∙ twice (nat_eq h a.0) (nat_eq h b.0);
   to_sums = λ a b x next h.
-      let pair : Made (Shares × Shares) = drawn a b (shares_of x) next in
+      let pair : Made (PartRegisters × PartRegisters) = drawn a b (shares_of x) next in
       let rest : Made Places = computed a b op.Sub (x ∷ places_at a b pair.given.1 ∷ []) pair.next in
-      let end : Made Shares = finished a b (shares_of rest.given) pair.given.0 rest.next in
+      let end : Made PartRegisters = finished a b (shares_of rest.given) pair.given.0 rest.next in
       list_any-append (acts_in h) pair.gadgets (rest.gadgets ++ end.gadgets)
       ∙ ap₂ (λ (i j : Bool). i || j) (once (nat_eq h a.0) (nat_eq h b.0))
       (list_any-append (acts_in h) rest.gadgets end.gadgets

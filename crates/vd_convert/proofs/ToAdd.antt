@@ -15,7 +15,7 @@ use Rattle.vd_duet.specs.Builder.{most_taken}
 use Rattle.vd_duet.specs.Calls.{Places, Made}
 use Rattle.vd_duet.specs.Laws.{IsIn, IsInOne, AreBelow, Gives, GivesWord, StandFor, Operand, IsReady}
 use Rattle.vd_duet.proofs.Front.{Since, orderly_wider}
-use Rattle.vd_backend_sharing.specs.declared.shares.Shares.{Shares}
+use Rattle.vd_backend_sharing.specs.declared.shares.PartRegisters.{PartRegisters}
 use Rattle.vd_backend_sharing.specs.PairCalls.{two, shares_of, places_at, at_hosts}
 use Rattle.vd_backend_sharing.proofs.Front.{First, Second, Old, New, Drawn, Opened, Applied, nothing_left, pair_word, pair_at, fresh_gives, Parts, parts_of, parts_named, both_known, stands_by, gives_then, parts_later}
 use Rattle.vd_words.specs.AddCalls.{add_serves, add_apply, add_calls}
@@ -45,7 +45,7 @@ gives_from {made = made} count t next source source' w P wider g = record {
 
 module _ (a b : HostId) (apart : a.0 ≢ b.0) (t : Tape) where
   -- what is left is opened, and the first host adds its part of the sum
-  finished_gives : (next : List ℕ) (w : Hosts) → IsReady (bit_calls a b) t next w → (source : ℕ → ℕ → Type 0) (rest sum : Shares) (d v : ℕ) → Parts ByXors a b next w rest d
+  finished_gives : (next : List ℕ) (w : Hosts) → IsReady (bit_calls a b) t next w → (source : ℕ → ℕ → Type 0) (rest sum : PartRegisters) (d v : ℕ) → Parts ByXors a b next w rest d
       → sum.first.0 < slice_index next a.0 → sum.second.0 < slice_index next b.0 → source b.0 sum.second.0
       → ((d + (w a.0).registers sum.first.0) % 2 ^ 32 + (w b.0).registers sum.second.0) % 2 ^ 32 ≡ v
       → Gives 32 t next source (at_hosts a b (finished a b rest sum next)) w (λ u. StandFor (add_calls a b) u (places_at a b (finished a b rest sum next).given) v)
@@ -118,12 +118,12 @@ module _ (a b : HostId) (apart : a.0 ≢ b.0) (t : Tape) where
     pub to_add_gives : GivesWord (add_calls a b) t next (IsIn x) (to_add_made a b x next) w v
     to_add_gives =
         let p : Parts ByXors a b next w (shares_of x) v = parts_of a b bit_serves (circuit_shares a b) ByXors next w x v o in
-        let pair : Made (Shares × Shares) = drawn a b (shares_of x) next in
+        let pair : Made (PartRegisters × PartRegisters) = drawn a b (shares_of x) next in
         let one = drawn_gives in
         let below = one.orderly.below in
         let xs : List Places = places_at a b (shares_of x) ∷ places_at a b pair.given.1 ∷ [] in
         let rest : Made Places = computed a b op.Sub xs pair.next in
-        let end : Made Shares = finished a b (shares_of rest.given) pair.given.0 rest.next in
+        let end : Made PartRegisters = finished a b (shares_of rest.given) pair.given.0 rest.next in
         let more : Made Places = record { given = places_at a b end.given; gadgets = rest.gadgets ++ end.gadgets; next = end.next } in
         let Is : Hosts → Type 0 = λ u. StandFor (add_calls a b) u (places_at a b end.given) v in
         let d : ℕ = (v + (2 ^ 32 - dealt)) % 2 ^ 32 in

@@ -10,7 +10,7 @@ use Rattle.vd_duet.specs.Builder.{most_taken}
 use Rattle.vd_duet.specs.Calls.{Places, Made}
 use Rattle.vd_duet.specs.Laws.{IsIn, IsInOne, Gives, GivesWord, StandFor, Operand, IsReady}
 use Rattle.vd_backend_sharing.proofs.Front.{taken_off, put_on}
-use Rattle.vd_backend_sharing.specs.declared.shares.Shares.{Shares}
+use Rattle.vd_backend_sharing.specs.declared.shares.PartRegisters.{PartRegisters}
 use Rattle.vd_backend_sharing.specs.PairCalls.{two, shares_of, places_at}
 use Rattle.vd_backend_sharing.proofs.Front.{First, Second, Old, New, BothGive, Applied, nothing_left, own_word, pair_at, fresh_gives, Parts, parts_of, both_known, stands_by, gives_then}
 use Rattle.vd_words.specs.AddCalls.{add_serves, add_apply, add_calls}
@@ -25,7 +25,7 @@ Hold u (p ∷ q ∷ r ∷ s ∷ []) x y =
 Hold u l x y = ⊥
 
 -- a register of one of two words
-either_word : (a b : HostId) (p q : Shares) (h r : ℕ) → IsInOne (places_at a b p ∷ places_at a b q ∷ []) h r → IsIn (places_at a b p ++ places_at a b q) h r
+either_word : (a b : HostId) (p q : PartRegisters) (h r : ℕ) → IsInOne (places_at a b p ∷ places_at a b q ∷ []) h r → IsIn (places_at a b p ++ places_at a b q) h r
 either_word a b p q h r (inl (inl i)) = inl i
 either_word a b p q h r (inl (inr (inl i))) = inr (inl i)
 either_word a b p q h r (inl (inr (inr i))) = absurd i
@@ -46,7 +46,7 @@ module _ (a b : HostId) (apart : a.0 ≢ b.0) (t : Tape) (next : List ℕ) (w : 
   masked_gives =
       let p : Parts BySums a b next w (shares_of x) v = parts_of a b add_serves (add_apply a b) BySums next w x v o in
       let known = both_known a b add_serves (add_apply a b) BySums next ready.known in
-      let y : Shares = shares_of x in
+      let y : PartRegisters = shares_of x in
       let x0 : ℕ = (w a.0).registers (shares_of x).first.0 in
       let x1 : ℕ = (w b.0).registers (shares_of x).second.0 in
       let own0 : ℕ = own_word t (pair_at a b ((shares_of x).first ∷ []) ((shares_of x).second ∷ []) next) w nothing_left First in
@@ -64,7 +64,7 @@ module _ (a b : HostId) (apart : a.0 ≢ b.0) (t : Tape) (next : List ℕ) (w : 
   pub to_xor_gives : GivesWord (bit_calls a b) t next (IsIn x) (to_xor_made a b x next) w v
   to_xor_gives =
       let p : Parts BySums a b next w (shares_of x) v = parts_of a b add_serves (add_apply a b) BySums next w x v o in
-      let made : Made (Shares × Shares) = masked_parts a b (shares_of x) next in
+      let made : Made (PartRegisters × PartRegisters) = masked_parts a b (shares_of x) next in
       let one = masked_gives in
       let below = one.orderly.below in
       let xs : List Places = places_at a b made.given.0 ∷ places_at a b made.given.1 ∷ [] in

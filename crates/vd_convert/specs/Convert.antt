@@ -8,7 +8,7 @@ use Rattle.vd_execution.specs.declared.instructions.Action.TheVariants as action
 use Rattle.vd_execution.specs.Gadgets.{ByXors, Pairing, Gadget, Alone, BothShare, Opens, Paired}
 use Rattle.vd_execution.specs.Text.{register}
 use Rattle.vd_duet.specs.Calls.{Places, placed, Made}
-use Rattle.vd_backend_sharing.specs.declared.shares.Shares.{Shares}
+use Rattle.vd_backend_sharing.specs.declared.shares.PartRegisters.{PartRegisters}
 use Rattle.vd_backend_sharing.specs.PairCalls.{two, fresh_at, shares_of, places_at}
 use Rattle.vd_words.specs.declared.add_pair.AddShare.{AddShare}
 use Rattle.vd_bits.specs.BitCalls.{computed}
@@ -18,19 +18,19 @@ abbrev pub added_parts : List (HostId × AddShare) → Places
 added_parts x = placed (λ part. part.0) x
 
 -- both hosts mask their parts by own words and give these to each other: the first host's part as a shared word, and the second's
-abbrev pub masking : HostId → HostId → Shares → ℕ → ℕ → List Gadget
+abbrev pub masking : HostId → HostId → PartRegisters → ℕ → ℕ → List Gadget
 masking a b x n m =
     BothShare a (register n) (register (n + 1)) b (register m) (register (m + 1))
     ∷ Alone a (action.Apply binary.Xor (register (n + 2)) x.first (register n))
     ∷ Alone b (action.Apply binary.Xor (register (m + 2)) x.second (register m)) ∷ []
 
-abbrev pub masked_parts : HostId → HostId → Shares → List ℕ → Made (Shares × Shares)
+abbrev pub masked_parts : HostId → HostId → PartRegisters → List ℕ → Made (PartRegisters × PartRegisters)
 masked_parts a b x = fresh_at a 3 b 3 (λ n m. (two (n + 2) (m + 1), two (n + 1) (m + 2))) (masking a b x)
 
 -- the two words are added
 abbrev pub to_xor_made : HostId → HostId → Places → List ℕ → Made Places
 to_xor_made a b x next =
-    let words : Made (Shares × Shares) = masked_parts a b (shares_of x) next in
+    let words : Made (PartRegisters × PartRegisters) = masked_parts a b (shares_of x) next in
     let sum : Made Places = computed a b op.Add (places_at a b words.given.0 ∷ places_at a b words.given.1 ∷ []) words.next in
     record { given = sum.given; gadgets = words.gadgets ++ sum.gadgets; next = sum.next }
 
@@ -39,18 +39,18 @@ abbrev pub pairing : HostId → Reg → ℕ → Pairing
 pairing h word n = record { host = h; word = word; s = register n; x = register (n + 1) }
 
 -- the parts of the pair's sum, and those of its exclusive or
-abbrev pub drawn : HostId → HostId → Shares → List ℕ → Made (Shares × Shares)
+abbrev pub drawn : HostId → HostId → PartRegisters → List ℕ → Made (PartRegisters × PartRegisters)
 drawn a b x =
     fresh_at a 2 b 2 (λ n m. (two n m, two (n + 1) (m + 1))) (λ n m. Paired (pairing a x.first n) (pairing b x.second m) ∷ [])
 
 -- both join the parts of what is left, and the first host adds its part of the pair's sum
-abbrev pub finishing : HostId → HostId → Shares → Shares → ℕ → ℕ → List Gadget
+abbrev pub finishing : HostId → HostId → PartRegisters → PartRegisters → ℕ → ℕ → List Gadget
 finishing a b rest sum n m =
     Alone a (action.Apply binary.Xor (register (n + 1)) rest.first (register n))
     ∷ Alone a (action.Apply binary.Add (register (n + 2)) (register (n + 1)) sum.first)
     ∷ Alone b (action.Apply binary.Xor (register (m + 1)) rest.second (register m)) ∷ []
 
-abbrev pub finished : HostId → HostId → Shares → Shares → List ℕ → Made Shares
+abbrev pub finished : HostId → HostId → PartRegisters → PartRegisters → List ℕ → Made PartRegisters
 finished a b rest sum =
     fresh_at a 3 b 2 (λ n m. record { first = register (n + 2); second = sum.second })
     (λ n m. Opens ByXors a rest.first b rest.second (register m) ∷ Opens ByXors b rest.second a rest.first (register n) ∷ finishing a b rest sum n m)
@@ -58,7 +58,7 @@ finished a b rest sum =
 -- the pair's word is taken off, and what is left is opened
 abbrev pub to_add_made : HostId → HostId → Places → List ℕ → Made Places
 to_add_made a b x next =
-    let pair : Made (Shares × Shares) = drawn a b (shares_of x) next in
+    let pair : Made (PartRegisters × PartRegisters) = drawn a b (shares_of x) next in
     let rest : Made Places = computed a b op.Sub (x ∷ places_at a b pair.given.1 ∷ []) pair.next in
-    let end : Made Shares = finished a b (shares_of rest.given) pair.given.0 rest.next in
+    let end : Made PartRegisters = finished a b (shares_of rest.given) pair.given.0 rest.next in
     record { given = places_at a b end.given; gadgets = pair.gadgets ++ (rest.gadgets ++ end.gadgets); next = end.next }

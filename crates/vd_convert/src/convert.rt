@@ -9,7 +9,7 @@ ghost use Rattle.vd_bits.specs.BitParts.{parts_of};
 ghost use Rattle.vd_convert.specs.Convert.{added_parts, masked_parts, drawn, finishing, finished, to_xor_made, to_add_made};
 
 use std::alloc::{AllocError, Global};
-use vd_backend_sharing::{Pair, Shares, Sharing, tell};
+use vd_backend_sharing::{Pair, PartRegisters, Sharing, tell};
 use vd_base::{HostId, Items};
 use vd_bits::{XorPair, XorShare};
 use vd_duet::{Duet, Parts};
@@ -19,8 +19,8 @@ use vd_words::{AddPair, AddShare};
 /// Two words by their parts.
 #[derive(Clone, Copy)]
 struct Two {
-    one: Shares,
-    other: Shares,
+    one: PartRegisters,
+    other: PartRegisters,
 }
 
 /// A word that is shared by sums becomes one that is shared by exclusive or: each part is shared, and the two are added.
@@ -78,7 +78,7 @@ fn pair_of(hosts: &XorPair) -> Pair
     }
 }
 
-fn bit_parts(hosts: &XorPair, x: Shares, alloc: Global) -> Result<Parts<XorShare>, AllocError>
+fn bit_parts(hosts: &XorPair, x: PartRegisters, alloc: Global) -> Result<Parts<XorShare>, AllocError>
     ensures { IfOk result (λ y. parts_of y ≡ places_at hosts.now.0 hosts.now.1 x) }
 {
     Ok(Items::from_slice(
@@ -88,15 +88,15 @@ fn bit_parts(hosts: &XorPair, x: Shares, alloc: Global) -> Result<Parts<XorShare
 }
 
 /// The registers of the two parts of a word that is shared by sums.
-fn added_shares(x: &Parts<AddShare>) -> Shares
+fn added_shares(x: &Parts<AddShare>) -> PartRegisters
     ensures { result ≡ shares_of (added_parts x.now) }
 {
     match x.as_slice() {
-        [first, second, ..] => Shares {
+        [first, second, ..] => PartRegisters {
             first: first.1.0,
             second: second.1.0,
         },
-        _ => Shares {
+        _ => PartRegisters {
             first: Reg(0),
             second: Reg(0),
         },
@@ -104,15 +104,15 @@ fn added_shares(x: &Parts<AddShare>) -> Shares
 }
 
 /// The registers of the two parts of a word that is shared by exclusive or.
-fn bit_shares(x: &Parts<XorShare>) -> Shares
+fn bit_shares(x: &Parts<XorShare>) -> PartRegisters
     ensures { result ≡ shares_of (parts_of x.now) }
 {
     match x.as_slice() {
-        [first, second, ..] => Shares {
+        [first, second, ..] => PartRegisters {
             first: first.1.0,
             second: second.1.0,
         },
-        _ => Shares {
+        _ => PartRegisters {
             first: Reg(0),
             second: Reg(0),
         },
@@ -120,7 +120,7 @@ fn bit_shares(x: &Parts<XorShare>) -> Shares
 }
 
 /// Both hosts mask their parts by own words and give these to each other: each part is now shared.
-fn mask(pair: &Pair, x: Shares, to: &mut Duet) -> Result<Two, AllocError>
+fn mask(pair: &Pair, x: PartRegisters, to: &mut Duet) -> Result<Two, AllocError>
     requires known { AreKnown (pair.now.first ∷ pair.now.second ∷ []) to.old.next }
     requires room { AreLow to.old.next }
     ensures exact { IfOk result (λ y. Makes (masked_parts pair.now.first pair.now.second x) to.old (y.one, y.other) to.new) }
@@ -139,11 +139,11 @@ fn mask(pair: &Pair, x: Shares, to: &mut Duet) -> Result<Two, AllocError>
         Action::Apply(Binary::Xor, masked_too, x.second, at.second),
     ))?;
     Ok(Two {
-        one: Shares {
+        one: PartRegisters {
             first: masked,
             second: heard_too,
         },
-        other: Shares {
+        other: PartRegisters {
             first: heard,
             second: masked_too,
         },
@@ -153,7 +153,7 @@ fn mask(pair: &Pair, x: Shares, to: &mut Duet) -> Result<Two, AllocError>
 /// Both hosts take an own word and give it to each other.
 fn give(
     pair: &Pair,
-    own: Shares,
+    own: PartRegisters,
     heard: Reg,
     heard_too: Reg,
     to: &mut Duet,
@@ -167,14 +167,14 @@ fn give(
 }
 
 /// Both hosts take a dealt pair: their parts of its sum, and of its exclusive or.
-fn draw(pair: &Pair, x: Shares, to: &mut Duet) -> Result<Two, AllocError>
+fn draw(pair: &Pair, x: PartRegisters, to: &mut Duet) -> Result<Two, AllocError>
     requires known { AreKnown (pair.now.first ∷ pair.now.second ∷ []) to.old.next }
     requires room { AreLow to.old.next }
     ensures exact { IfOk result (λ y. Makes (drawn pair.now.first pair.now.second x) to.old (y.one, y.other) to.new) }
     ensures few { OnOk result (TakesAtMost 32 to.old.next to.new.next) }
 {
     let at = pair.reserve(2, 2, to);
-    let word = Shares {
+    let word = PartRegisters {
         first: Reg(at.first.0 + 1),
         second: Reg(at.second.0 + 1),
     };
@@ -190,7 +190,7 @@ fn draw(pair: &Pair, x: Shares, to: &mut Duet) -> Result<Two, AllocError>
 }
 
 /// Both hosts open what is left, and the first adds it to its part of the pair.
-fn finish(pair: &Pair, rest: Shares, sum: Shares, to: &mut Duet) -> Result<Shares, AllocError>
+fn finish(pair: &Pair, rest: PartRegisters, sum: PartRegisters, to: &mut Duet) -> Result<PartRegisters, AllocError>
     requires known { AreKnown (pair.now.first ∷ pair.now.second ∷ []) to.old.next }
     requires room { AreLow to.old.next }
     ensures exact { IfOk result (λ y. Makes (finished pair.now.first pair.now.second rest sum) to.old y to.new) }
@@ -200,14 +200,14 @@ fn finish(pair: &Pair, rest: Shares, sum: Shares, to: &mut Duet) -> Result<Share
     tell(pair.first, rest.first, pair.second, at.second, to)?;
     tell(pair.second, rest.second, pair.first, at.first, to)?;
     join(pair, rest, sum, at, to)?;
-    Ok(Shares {
+    Ok(PartRegisters {
         first: Reg(at.first.0 + 2),
         second: sum.second,
     })
 }
 
 /// Both hosts join the parts of what is left, and the first adds its part of the pair.
-fn join(pair: &Pair, rest: Shares, sum: Shares, at: Shares, to: &mut Duet) -> Result<(), AllocError>
+fn join(pair: &Pair, rest: PartRegisters, sum: PartRegisters, at: PartRegisters, to: &mut Duet) -> Result<(), AllocError>
     requires low_first { at.first.0 < 4000000016 }
     requires low_second { at.second.0 < 4000000016 }
     ensures { OnOk result (to.new ≡ appended (finishing pair.now.first pair.now.second rest sum at.first.0 at.second.0) to.old) }

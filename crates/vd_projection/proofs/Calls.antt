@@ -16,7 +16,7 @@ use Rattle.vd_duet.specs.Builder.{next_at, taken}
 use Rattle.vd_duet.specs.Calls.{Places, Made, Calls, register_of}
 use Rattle.vd_duet.specs.Laws.{Each}
 use Rattle.vd_clear.specs.Copies.{written_by}
-use Rattle.vd_backend_sharing.specs.declared.shares.Shares.{Shares}
+use Rattle.vd_backend_sharing.specs.declared.shares.PartRegisters.{PartRegisters}
 use Rattle.vd_backend_sharing.specs.PairCalls.{shares_of, at_hosts}
 use Rattle.vd_split.specs.Suite.{Made as AnyMade}
 use Rattle.vd_backend_laws.specs.Moves.{only, Route, Share, Adopt, Show, ShowAll, Spread, Same, SameBound, ToXor, ToAdd, copies_at, moved}
@@ -136,7 +136,7 @@ module _ (hosts N : ℕ) where
       → WordMade hosts N n (at_hosts a b (record { given = shares_of x; gadgets = []; next = next }))
   same_fits a b here there x m n next f room =
       let more : m + 384 ≤ n = room.more in
-      let made : Made Shares = record { given = shares_of x; gadgets = []; next = next } in
+      let made : Made PartRegisters = record { given = shares_of x; gadgets = []; next = next } in
       let fits : SharesMade hosts N m made = record { low = room.low; given = shares_fit hosts m x f.at; gadgets = tt } in
       shared_word hosts N a b here there m n made (omega (arith, more)) fits
 

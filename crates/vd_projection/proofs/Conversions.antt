@@ -7,7 +7,7 @@ use Rattle.vd_backend_sharing.specs.Gates.{gates_of}
 use Rattle.vd_duet.specs.Builder.{taken}
 use Rattle.vd_duet.specs.Calls.{Made}
 use Rattle.vd_duet.specs.Laws.{Each}
-use Rattle.vd_backend_sharing.specs.declared.shares.Shares.{Shares}
+use Rattle.vd_backend_sharing.specs.declared.shares.PartRegisters.{PartRegisters}
 use Rattle.vd_backend_sharing.specs.PairCalls.{shares_of}
 use Rattle.vd_bits.specs.BitCalls.{gates_shares}
 use Rattle.vd_convert.specs.Convert.{masked_parts, to_xor_made, drawn, finished, to_add_made}
@@ -18,13 +18,13 @@ use Rattle.vd_projection.proofs.Gates.{gates_made, gates_cost, few_gates}
 
 module _ (hosts N : ℕ) (a b : HostId) (here : a.0 < hosts) (there : b.0 < hosts) where
   -- two shared words
-  record BothMade (n : ℕ) (made : Made (Shares × Shares)) : Type 0 where
+  record BothMade (n : ℕ) (made : Made (PartRegisters × PartRegisters)) : Type 0 where
     low : IsLow n made.next
     first : SharesFit n made.given.0
     second : SharesFit n made.given.1
     gadgets : Each (GadgetFits hosts N) made.gadgets
 
-  masked_fit : (x : Shares) (m n : ℕ) (next : List ℕ) → SharesFit m x → IsLow m next → m + 6 ≤ n → n ≤ N → BothMade n (masked_parts a b x next)
+  masked_fit : (x : PartRegisters) (m n : ℕ) (next : List ℕ) → SharesFit m x → IsLow m next → m + 6 ≤ n → n ≤ N → BothMade n (masked_parts a b x next)
   masked_fit x m n next f low le most =
       let z = starts a b m n 3 3 next low le in
       let p = z.0 in
@@ -55,7 +55,7 @@ module _ (hosts N : ℕ) (a b : HostId) (here : a.0 < hosts) (there : b.0 < host
         );
       }
 
-  drawn_fit : (x : Shares) (m n : ℕ) (next : List ℕ) → SharesFit m x → IsLow m next → m + 4 ≤ n → n ≤ N → BothMade n (drawn a b x next)
+  drawn_fit : (x : PartRegisters) (m n : ℕ) (next : List ℕ) → SharesFit m x → IsLow m next → m + 4 ≤ n → n ≤ N → BothMade n (drawn a b x next)
   drawn_fit x m n next f low le most =
       let z = starts a b m n 2 2 next low le in
       let p = z.0 in
@@ -67,7 +67,7 @@ module _ (hosts N : ℕ) (a b : HostId) (here : a.0 < hosts) (there : b.0 < host
         gadgets = (((omega (arith, p, most), omega (arith, p, most)), ((omega (arith, q, most), omega (arith, q, most)), tt)), tt);
       }
 
-  finished_fit : (rest sum : Shares) (m n : ℕ) (next : List ℕ) → SharesFit m rest → SharesFit m sum → IsLow m next → m + 5 ≤ n → n ≤ N → SharesMade hosts N n (finished a b rest sum next)
+  finished_fit : (rest sum : PartRegisters) (m n : ℕ) (next : List ℕ) → SharesFit m rest → SharesFit m sum → IsLow m next → m + 5 ≤ n → n ≤ N → SharesMade hosts N n (finished a b rest sum next)
   finished_fit rest sum m n next f g low le most =
       let z = starts a b m n 3 2 next low le in
       let p = z.0 in
@@ -100,9 +100,9 @@ module _ (hosts N : ℕ) (a b : HostId) (here : a.0 < hosts) (there : b.0 < host
   to_bits_fit x m n next f room =
       let part = roomy N 6 m n next (lit≤ tt) room in
       let all = roomy N 366 m n next (lit≤ tt) room in
-      let words : Made (Shares × Shares) = masked_parts a b (shares_of x) next in
-      let parts : List Shares = words.given.0 ∷ words.given.1 ∷ [] in
-      let sum : Made Shares = gates_shares a b (gates_of op.Add) parts words.next in
+      let words : Made (PartRegisters × PartRegisters) = masked_parts a b (shares_of x) next in
+      let parts : List PartRegisters = words.given.0 ∷ words.given.1 ∷ [] in
+      let sum : Made PartRegisters = gates_shares a b (gates_of op.Add) parts words.next in
       let one = masked_fit (shares_of x) m (m + 6) next (shares_fit hosts m x f.at) room.low (omega arith) part.1 in
       let few = few_gates op.Add in
       let two = gates_made hosts N a b here there (gates_of op.Add) parts (m + 6) (m + 366) words.next (one.first, (one.second, tt)) one.low (within (gates_cost (gates_of op.Add)) few) all.1 in
@@ -121,10 +121,10 @@ module _ (hosts N : ℕ) (a b : HostId) (here : a.0 < hosts) (there : b.0 < host
       let begun = roomy N 4 m n next (lit≤ tt) room in
       let part = roomy N 364 m n next (lit≤ tt) room in
       let all = roomy N 369 m n next (lit≤ tt) room in
-      let pair : Made (Shares × Shares) = drawn a b (shares_of x) next in
-      let parts : List Shares = shares_of x ∷ pair.given.1 ∷ [] in
-      let rest : Made Shares = gates_shares a b (gates_of op.Sub) parts pair.next in
-      let end : Made Shares = finished a b rest.given pair.given.0 rest.next in
+      let pair : Made (PartRegisters × PartRegisters) = drawn a b (shares_of x) next in
+      let parts : List PartRegisters = shares_of x ∷ pair.given.1 ∷ [] in
+      let rest : Made PartRegisters = gates_shares a b (gates_of op.Sub) parts pair.next in
+      let end : Made PartRegisters = finished a b rest.given pair.given.0 rest.next in
       let word = shares_fit hosts m x f.at in
       let one = drawn_fit (shares_of x) m (m + 4) next word room.low (omega arith) begun.1 in
       let few = few_gates op.Sub in

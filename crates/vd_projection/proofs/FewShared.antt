@@ -10,7 +10,7 @@ use Rattle.vd_execution.specs.declared.instructions.Binary.TheVariants as binary
 use Rattle.vd_execution.specs.Gadgets.{Sharing, BySums, ByXors}
 use Rattle.vd_duet.specs.Calls.{Places, Made}
 use Rattle.vd_backend_sharing.specs.Gates.{Gate, And, Xor, Shl, Shr, Not, Flip, Lowest, Mask, gates_of}
-use Rattle.vd_backend_sharing.specs.declared.shares.Shares.{Shares}
+use Rattle.vd_backend_sharing.specs.declared.shares.PartRegisters.{PartRegisters}
 use Rattle.vd_backend_sharing.specs.PairCalls.{split_off, exchanged, shared_from, opened_by, shown_at, applied_shares, product_shares, shares_of, places_at, operand, pair_calls}
 use Rattle.vd_words.specs.AddCalls.{add_serves, add_apply, add_calls}
 use Rattle.vd_bits.specs.BitCalls.{parts_at, turned_first, gate_shares, gates_shares, circuit_shares, computed}
@@ -96,17 +96,17 @@ few_gates op.Max = lit≤ tt
 few_gates op.Mux = lit≤ tt
 
 module _ (a b : HostId) where
-  product_few : (s : Sharing) (x y : Shares) (next : List ℕ) → AreFew 24 (product_shares s a b x y next).gadgets
+  product_few : (s : Sharing) (x y : PartRegisters) (next : List ℕ) → AreFew 24 (product_shares s a b x y next).gadgets
   unfolding product_shares
   product_few s x y next = record { small = (tt, (tt, (tt, (tt, (tt, (tt, (tt, (tt, (tt, (tt, (tt, (tt, (tt, (tt, (tt, tt))))))))))))))); few = lit≤ tt; lines = lit≤ tt }
 
-  applied_few : (x y : Shares) (next : List ℕ) → AreFew 2 (applied_shares binary.Xor a b x y next).gadgets
+  applied_few : (x y : PartRegisters) (next : List ℕ) → AreFew 2 (applied_shares binary.Xor a b x y next).gadgets
   applied_few x y next = record { small = (tt, (tt, tt)); few = lit≤ tt; lines = lit≤ tt }
 
-  turned_few : (k : ℕ) (x : Shares) (next : List ℕ) → AreFew 2 (turned_first k a b x next).gadgets
+  turned_few : (k : ℕ) (x : PartRegisters) (next : List ℕ) → AreFew 2 (turned_first k a b x next).gadgets
   turned_few k x next = record { small = (tt, (tt, tt)); few = lit≤ tt; lines = lit≤ tt }
 
-  gate_few : (g : Gate) → gate_fits g ≡ true → (words : List Shares) (next : List ℕ) → AreFew (gate_bulk g) (gate_shares a b g words next).gadgets
+  gate_few : (g : Gate) → gate_fits g ≡ true → (words : List PartRegisters) (next : List ℕ) → AreFew (gate_bulk g) (gate_shares a b g words next).gadgets
   gate_few (And x y) e words next = product_few ByXors (parts_at words x) (parts_at words y) next
   gate_few (Xor x y) e words next = applied_few (parts_at words x) (parts_at words y) next
   gate_few (Shl k x) e words next = let lt = below k 32 e in record { small = (lt, (lt, tt)); few = lit≤ tt; lines = lit≤ tt }
@@ -116,15 +116,15 @@ module _ (a b : HostId) where
   gate_few (Lowest x) e words next = record { small = (tt, (tt, (tt, (tt, tt)))); few = lit≤ tt; lines = lit≤ tt }
   gate_few (Mask x) e words next = record { small = (tt, (tt, (tt, (tt, (tt, (tt, (tt, (tt, tt)))))))); few = lit≤ tt; lines = lit≤ tt }
 
-  gates_few : (gates : List Gate) → list_all gate_fits gates ≡ true → (words : List Shares) (next : List ℕ) → AreFew (gates_bulk gates) (gates_shares a b gates words next).gadgets
+  gates_few : (gates : List Gate) → list_all gate_fits gates ≡ true → (words : List PartRegisters) (next : List ℕ) → AreFew (gates_bulk gates) (gates_shares a b gates words next).gadgets
   gates_few [] e words next = few_none 0
   gates_few (g ∷ gates) e words next =
-      let one : Made Shares = gate_shares a b g words next in
-      let rest : Made Shares = gates_shares a b gates (words ++ one.given ∷ []) one.next in
+      let one : Made PartRegisters = gate_shares a b g words next in
+      let rest : Made PartRegisters = gates_shares a b gates (words ++ one.given ∷ []) one.next in
       few_both (gate_bulk g) (gates_bulk gates) one.gadgets rest.gadgets (gate_few g (and_left (gate_fits g) (list_all gate_fits gates) e) words next)
       (gates_few gates (and_right (gate_fits g) (list_all gate_fits gates) e) (words ++ one.given ∷ []) one.next)
 
-  circuit_few : (o : Op) → amount_fits o ≡ true → (words : List Shares) (next : List ℕ) → AreFew 320 (gates_shares a b (gates_of o) words next).gadgets
+  circuit_few : (o : Op) → amount_fits o ≡ true → (words : List PartRegisters) (next : List ℕ) → AreFew 320 (gates_shares a b (gates_of o) words next).gadgets
   circuit_few o e words next = few_more (gates_bulk (gates_of o)) 320 (gates_shares a b (gates_of o) words next).gadgets (few_gates o) (gates_few (gates_of o) (gates_fit o e) words next)
 
   -- ---- the other calls
@@ -132,18 +132,18 @@ module _ (a b : HostId) where
   shared_few : (s : Sharing) (from : HostId) (x : Reg) (next : List ℕ) → AreFew 4 (shared_from s a b from x next).gadgets
   shared_few s from x next = at (nat_eq from.0 a.0)
     where
-      at : (z : Bool) → (let made : Made Shares = if z then split_off s a b x next else exchanged (split_off s b a x next) in AreFew 4 made.gadgets)
+      at : (z : Bool) → (let made : Made PartRegisters = if z then split_off s a b x next else exchanged (split_off s b a x next) in AreFew 4 made.gadgets)
       at true = record { small = (tt, (tt, tt)); few = lit≤ tt; lines = lit≤ tt }
       at false = record { small = (tt, (tt, tt)); few = lit≤ tt; lines = lit≤ tt }
 
-  shown_few : (s : Sharing) (x : Shares) (to : HostId) (next : List ℕ) → AreFew 4 (shown_at s a b x to next).gadgets
+  shown_few : (s : Sharing) (x : PartRegisters) (to : HostId) (next : List ℕ) → AreFew 4 (shown_at s a b x to next).gadgets
   shown_few s x to next = at (nat_eq to.0 a.0)
     where
       at : (z : Bool) → (let made : Made Reg = if z then opened_by s b x.second a x.first next else opened_by s a x.first b x.second next in AreFew 4 made.gadgets)
       at true = record { small = (tt, (tt, tt)); few = lit≤ tt; lines = lit≤ tt }
       at false = record { small = (tt, (tt, tt)); few = lit≤ tt; lines = lit≤ tt }
 
-  pair_few : (s : Sharing) (serves : Op → Bool) (apply : Op → List Places → List ℕ → Made Shares)
+  pair_few : (s : Sharing) (serves : Op → Bool) (apply : Op → List Places → List ℕ → Made PartRegisters)
       → ((o : Op) → amount_fits o ≡ true → (xs : List Places) (next : List ℕ) → AreFew 320 (apply o xs next).gadgets) → CallsAreFew (pair_calls s a b serves apply)
   pair_few s serves apply law = record {
     literal = λ v next. record { gadgets = record { small = (tt, (tt, tt)); few = lit≤ tt; lines = lit≤ tt }; given = lit≤ tt };
@@ -173,7 +173,7 @@ module _ (a b : HostId) where
 
   pub to_bits_few : (x : Places) (next : List ℕ) → WordFew (to_xor_made a b x next)
   to_bits_few x next =
-      let words : Made (Shares × Shares) = masked_parts a b (shares_of x) next in
+      let words : Made (PartRegisters × PartRegisters) = masked_parts a b (shares_of x) next in
       let parts : List Places = places_at a b words.given.0 ∷ places_at a b words.given.1 ∷ [] in
       let sum : Made Places = computed a b op.Add parts words.next in
       let one : AreFew 6 words.gadgets = record { small = (tt, (tt, (tt, tt))); few = lit≤ tt; lines = lit≤ tt } in
@@ -184,10 +184,10 @@ module _ (a b : HostId) where
 
   pub to_sums_few : (x : Places) (next : List ℕ) → WordFew (to_add_made a b x next)
   to_sums_few x next =
-      let pair : Made (Shares × Shares) = drawn a b (shares_of x) next in
+      let pair : Made (PartRegisters × PartRegisters) = drawn a b (shares_of x) next in
       let parts : List Places = x ∷ places_at a b pair.given.1 ∷ [] in
       let rest : Made Places = computed a b op.Sub parts pair.next in
-      let end : Made Shares = finished a b (shares_of rest.given) pair.given.0 rest.next in
+      let end : Made PartRegisters = finished a b (shares_of rest.given) pair.given.0 rest.next in
       let one : AreFew 2 pair.gadgets = record { small = (tt, tt); few = lit≤ tt; lines = lit≤ tt } in
       let last : AreFew 7 end.gadgets = record { small = (tt, (tt, (tt, (tt, (tt, tt))))); few = lit≤ tt; lines = lit≤ tt } in
       record {

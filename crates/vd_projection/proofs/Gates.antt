@@ -14,7 +14,7 @@ use Rattle.vd_duet.specs.Builder.{taken}
 use Rattle.vd_duet.specs.Calls.{Made}
 use Rattle.vd_duet.specs.Laws.{Each}
 use Rattle.vd_backend_sharing.specs.Gates.{Gate, And, Xor, Shl, Shr, Not, Flip, Lowest, Mask, gates_of}
-use Rattle.vd_backend_sharing.specs.declared.shares.Shares.{Shares}
+use Rattle.vd_backend_sharing.specs.declared.shares.PartRegisters.{PartRegisters}
 use Rattle.vd_backend_sharing.specs.PairCalls.{applied_shares, numbered_shares, masking_from, unmasked, completed, product_shares}
 use Rattle.vd_bits.specs.BitCalls.{parts_at, shifted_left, shifted_right, turned_first, mask_at, masked_shares, gate_shares, newest_of, gates_shares}
 use Rattle.vd_projection.specs.Fits.{IsLow, ActFits, GadgetFits}
@@ -37,7 +37,7 @@ gates_cost [] = 0
 gates_cost (g ∷ gates) = gate_cost g + gates_cost gates
 
 module _ (hosts N : ℕ) (a b : HostId) (here : a.0 < hosts) (there : b.0 < hosts) where
-  pub applied_made : (o : Binary) (x y : Shares) (m n : ℕ) (next : List ℕ) → SharesFit m x → SharesFit m y → IsLow m next → m + 2 ≤ n → n ≤ N → SharesMade hosts N n (applied_shares o a b x y next)
+  pub applied_made : (o : Binary) (x y : PartRegisters) (m n : ℕ) (next : List ℕ) → SharesFit m x → SharesFit m y → IsLow m next → m + 2 ≤ n → n ≤ N → SharesMade hosts N n (applied_shares o a b x y next)
   applied_made o x y m n next f g low le most =
       let s = starts a b m n 1 1 next low le in
       let p = s.0 in
@@ -57,7 +57,7 @@ module _ (hosts N : ℕ) (a b : HostId) (here : a.0 < hosts) (there : b.0 < host
 
   -- ---- shifts, bits that are turned, and masks
 
-  shifted_left_made : (k : ℕ) (x : Shares) (m n : ℕ) (next : List ℕ) → SharesFit m x → IsLow m next → m + 2 ≤ n → n ≤ N → SharesMade hosts N n (shifted_left k a b x next)
+  shifted_left_made : (k : ℕ) (x : PartRegisters) (m n : ℕ) (next : List ℕ) → SharesFit m x → IsLow m next → m + 2 ≤ n → n ≤ N → SharesMade hosts N n (shifted_left k a b x next)
   shifted_left_made k x m n next f low le most =
       let s = starts a b m n 1 1 next low le in
       let p = s.0 in
@@ -70,7 +70,7 @@ module _ (hosts N : ℕ) (a b : HostId) (here : a.0 < hosts) (there : b.0 < host
         gadgets = (((omega (arith, p, most), omega (arith, x0, le, most)), tt), (((omega (arith, q, most), omega (arith, x1, le, most)), tt), tt));
       }
 
-  shifted_right_made : (k : ℕ) (x : Shares) (m n : ℕ) (next : List ℕ) → SharesFit m x → IsLow m next → m + 2 ≤ n → n ≤ N → SharesMade hosts N n (shifted_right k a b x next)
+  shifted_right_made : (k : ℕ) (x : PartRegisters) (m n : ℕ) (next : List ℕ) → SharesFit m x → IsLow m next → m + 2 ≤ n → n ≤ N → SharesMade hosts N n (shifted_right k a b x next)
   shifted_right_made k x m n next f low le most =
       let s = starts a b m n 1 1 next low le in
       let p = s.0 in
@@ -83,7 +83,7 @@ module _ (hosts N : ℕ) (a b : HostId) (here : a.0 < hosts) (there : b.0 < host
         gadgets = (((omega (arith, p, most), omega (arith, x0, le, most)), tt), (((omega (arith, q, most), omega (arith, x1, le, most)), tt), tt));
       }
 
-  turned_made : (k : ℕ) (x : Shares) (m n : ℕ) (next : List ℕ) → SharesFit m x → IsLow m next → m + 2 ≤ n → n ≤ N → SharesMade hosts N n (turned_first k a b x next)
+  turned_made : (k : ℕ) (x : PartRegisters) (m n : ℕ) (next : List ℕ) → SharesFit m x → IsLow m next → m + 2 ≤ n → n ≤ N → SharesMade hosts N n (turned_first k a b x next)
   turned_made k x m n next f low le most =
       let p = low a.0 in
       let x0 = f.0 in
@@ -94,7 +94,7 @@ module _ (hosts N : ℕ) (a b : HostId) (here : a.0 < hosts) (there : b.0 < host
         gadgets = ((omega (arith, p, le, most), tt), (((omega (arith, p, le, most), omega (arith, x0, le, most), omega (arith, p, le, most)), tt), tt));
       }
 
-  pub numbered_made : (o : Binary) (k : ℕ) (x : Shares) (m n : ℕ) (next : List ℕ) → SharesFit m x → IsLow m next → m + 4 ≤ n → n ≤ N → SharesMade hosts N n (numbered_shares o k a b x next)
+  pub numbered_made : (o : Binary) (k : ℕ) (x : PartRegisters) (m n : ℕ) (next : List ℕ) → SharesFit m x → IsLow m next → m + 4 ≤ n → n ≤ N → SharesMade hosts N n (numbered_shares o k a b x next)
   numbered_made o k x m n next f low le most =
       let s = starts a b m n 2 2 next low le in
       let p = s.0 in
@@ -154,7 +154,7 @@ module _ (hosts N : ℕ) (a b : HostId) (here : a.0 < hosts) (there : b.0 < host
   completed_fits : (s : Sharing) (h : HostId) (r : ℕ) → r + 15 ≤ N → Each (GadgetFits hosts N) (completed s h r)
   completed_fits s h r le = (((omega (arith, le), omega (arith, le), omega (arith, le)), tt), (((omega (arith, le), omega (arith, le), omega (arith, le)), tt), tt))
 
-  pub product_made : (s : Sharing) (x y : Shares) (m n : ℕ) (next : List ℕ) → SharesFit m x → SharesFit m y → IsLow m next → m + 28 ≤ n → n ≤ N → SharesMade hosts N n (product_shares s a b x y next)
+  pub product_made : (s : Sharing) (x y : PartRegisters) (m n : ℕ) (next : List ℕ) → SharesFit m x → SharesFit m y → IsLow m next → m + 28 ≤ n → n ≤ N → SharesMade hosts N n (product_shares s a b x y next)
   unfolding product_shares
   product_made s x y m n next f g low le most =
       let z = starts a b m n 15 13 next low le in
@@ -182,7 +182,7 @@ module _ (hosts N : ℕ) (a b : HostId) (here : a.0 < hosts) (there : b.0 < host
         );
       }
 
-  masked_made : (x : Shares) (m n : ℕ) (next : List ℕ) → SharesFit m x → IsLow m next → m + 8 ≤ n → n ≤ N → SharesMade hosts N n (masked_shares a b x next)
+  masked_made : (x : PartRegisters) (m n : ℕ) (next : List ℕ) → SharesFit m x → IsLow m next → m + 8 ≤ n → n ≤ N → SharesMade hosts N n (masked_shares a b x next)
   masked_made x m n next f low le most =
       let z = starts a b m n 4 4 next low le in
       let p = z.0 in
@@ -205,12 +205,12 @@ module _ (hosts N : ℕ) (a b : HostId) (here : a.0 < hosts) (there : b.0 < host
 
   -- ---- one gate, and gates one after the other
 
-  part_fits : (m : ℕ) (words : List Shares) (place : ℕ) → Each (SharesFit m) words → SharesFit m (parts_at words place)
+  part_fits : (m : ℕ) (words : List PartRegisters) (place : ℕ) → Each (SharesFit m) words → SharesFit m (parts_at words place)
   part_fits m [] place f = (omega arith, omega arith)
   part_fits m (x ∷ words) zero f = f.0
   part_fits m (x ∷ words) (suc place) f = part_fits m words place f.1
 
-  gate_made : (g : Gate) (words : List Shares) (m n : ℕ) (next : List ℕ) → Each (SharesFit m) words → IsLow m next → m + gate_cost g ≤ n → n ≤ N → SharesMade hosts N n (gate_shares a b g words next)
+  gate_made : (g : Gate) (words : List PartRegisters) (m n : ℕ) (next : List ℕ) → Each (SharesFit m) words → IsLow m next → m + gate_cost g ≤ n → n ≤ N → SharesMade hosts N n (gate_shares a b g words next)
   gate_made (And x y) words m n next f low le most = product_made ByXors (parts_at words x) (parts_at words y) m n next (part_fits m words x f) (part_fits m words y f) low le most
   gate_made (Xor x y) words m n next f low le most = applied_made binary.Xor (parts_at words x) (parts_at words y) m n next (part_fits m words x f) (part_fits m words y f) low le most
   gate_made (Shl k x) words m n next f low le most = shifted_left_made k (parts_at words x) m n next (part_fits m words x f) low le most
@@ -220,11 +220,11 @@ module _ (hosts N : ℕ) (a b : HostId) (here : a.0 < hosts) (there : b.0 < host
   gate_made (Lowest x) words m n next f low le most = numbered_made binary.And 1 (parts_at words x) m n next (part_fits m words x f) low le most
   gate_made (Mask x) words m n next f low le most = masked_made (parts_at words x) m n next (part_fits m words x f) low le most
 
-  words_more : (m n : ℕ) (words : List Shares) (x : Shares) → m ≤ n → Each (SharesFit m) words → SharesFit n x → Each (SharesFit n) (words ++ x ∷ [])
+  words_more : (m n : ℕ) (words : List PartRegisters) (x : PartRegisters) → m ≤ n → Each (SharesFit m) words → SharesFit n x → Each (SharesFit n) (words ++ x ∷ [])
   words_more m n [] x le f g = (g, tt)
   words_more m n (w ∷ words) x le f g = (shares_more m n w le f.0, words_more m n words x le f.1 g)
 
-  pub gates_made : (gates : List Gate) (words : List Shares) (m n : ℕ) (next : List ℕ) → Each (SharesFit m) words → IsLow m next → m + gates_cost gates ≤ n → n ≤ N
+  pub gates_made : (gates : List Gate) (words : List PartRegisters) (m n : ℕ) (next : List ℕ) → Each (SharesFit m) words → IsLow m next → m + gates_cost gates ≤ n → n ≤ N
       → SharesMade hosts N n (gates_shares a b gates words next)
   gates_made [] words m n next f low le most = record {
     low = low_more m n next (omega (arith, le)) low;
@@ -232,7 +232,7 @@ module _ (hosts N : ℕ) (a b : HostId) (here : a.0 < hosts) (there : b.0 < host
     gadgets = tt;
   }
   gates_made (g ∷ gates) words m n next f low le most =
-      let first : Made Shares = gate_shares a b g words next in
+      let first : Made PartRegisters = gate_shares a b g words next in
       let one = gate_made g words m (m + gate_cost g) next f low (omega arith) (within (gate_cost g) (gates_cost gates) le) in
       let rest = gates_made gates (words ++ first.given ∷ []) (m + gate_cost g) n first.next (words_more m (m + gate_cost g) words first.given (omega arith) f one.given) one.low (later (gate_cost g) (gates_cost gates) le) most in
       record {

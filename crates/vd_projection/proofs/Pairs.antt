@@ -4,7 +4,7 @@ use Rattle.vd_base.specs.declared.ids.HostId.{HostId}
 use Rattle.vd_duet.specs.Builder.{taken}
 use Rattle.vd_duet.specs.Calls.{Places, Made}
 use Rattle.vd_duet.specs.Laws.{Each}
-use Rattle.vd_backend_sharing.specs.declared.shares.Shares.{Shares}
+use Rattle.vd_backend_sharing.specs.declared.shares.PartRegisters.{PartRegisters}
 use Rattle.vd_backend_sharing.specs.PairCalls.{shares_of, operand, at_hosts}
 use Rattle.vd_projection.specs.Fits.{IsLow, GadgetFits, PlacesFit, PartsFit, WordMade}
 use Rattle.vd_projection.proofs.Bounds.{low_more, taken_low}
@@ -21,10 +21,10 @@ starts a b m n i j next low le = (let p = low a.0 in omega (arith, p, le), let q
 -- ---- two parts
 
 -- their registers are at most a number
-abbrev pub SharesFit : ℕ → Shares → Type 0
+abbrev pub SharesFit : ℕ → PartRegisters → Type 0
 SharesFit n x = (x.first.0 ≤ n) × (x.second.0 ≤ n)
 
-pub shares_more : (m n : ℕ) (x : Shares) → m ≤ n → SharesFit m x → SharesFit n x
+pub shares_more : (m n : ℕ) (x : PartRegisters) → m ≤ n → SharesFit m x → SharesFit n x
 shares_more m n x le f = (let p = f.0 in omega (arith, p, le), let q = f.1 in omega (arith, q, le))
 
 pub shares_fit : (hosts m : ℕ) (x : Places) → PlacesFit hosts 0 m x → SharesFit m (shares_of x)
@@ -42,13 +42,13 @@ operands_fit hosts m [] f = tt
 operands_fit hosts m (x ∷ xs) f = (shares_fit hosts m x f.0.at, operands_fit hosts m xs f.1)
 
 module _ (hosts N : ℕ) where
-  pub record SharesMade (n : ℕ) (made : Made Shares) : Type 0 where
+  pub record SharesMade (n : ℕ) (made : Made PartRegisters) : Type 0 where
     pub low : IsLow n made.next
     pub given : SharesFit n made.given
     pub gadgets : Each (GadgetFits hosts N) made.gadgets
 
   -- two parts as the parts of a word
-  pub shared_word : (a b : HostId) → a.0 < hosts → b.0 < hosts → (k n : ℕ) (made : Made Shares) → k < n → SharesMade k made → WordMade hosts N n (at_hosts a b made)
+  pub shared_word : (a b : HostId) → a.0 < hosts → b.0 < hosts → (k n : ℕ) (made : Made PartRegisters) → k < n → SharesMade k made → WordMade hosts N n (at_hosts a b made)
   shared_word a b here there k n made lt f =
       let p = f.given.0 in
       let q = f.given.1 in

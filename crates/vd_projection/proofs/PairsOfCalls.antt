@@ -8,7 +8,7 @@ use Rattle.vd_execution.specs.Gadgets.{Sharing, BySums, ByXors}
 use Rattle.vd_backend_sharing.specs.Gates.{gates_of}
 use Rattle.vd_duet.specs.Calls.{Places, Made}
 use Rattle.vd_duet.specs.Laws.{Each}
-use Rattle.vd_backend_sharing.specs.declared.shares.Shares.{Shares}
+use Rattle.vd_backend_sharing.specs.declared.shares.PartRegisters.{PartRegisters}
 use Rattle.vd_backend_sharing.specs.PairCalls.{two, literal_shares, shared_from, adopted_shares, shown_at, shown_to_both, kept_shares, shares_of, operand, pair_calls}
 use Rattle.vd_words.specs.AddCalls.{add_serves, add_apply, add_calls}
 use Rattle.vd_bits.specs.BitCalls.{circuit_shares}
@@ -21,12 +21,12 @@ use Rattle.vd_projection.proofs.Shares.{literal_made, kept_made, renewed_made, a
 
 module _ (hosts N : ℕ) (a b : HostId) (here : a.0 < hosts) (there : b.0 < hosts) where
   -- what is made of operands
-  abbrev OperationFits : (Op → List Places → List ℕ → Made Shares) → Type 0
+  abbrev OperationFits : (Op → List Places → List ℕ → Made PartRegisters) → Type 0
   OperationFits apply =
       (o : Op) (xs : List Places) (m n : ℕ) (next : List ℕ) → Each (PartsFit hosts 0 m) xs → IsLow m next → m + 360 ≤ n → n ≤ N
       → SharesMade hosts N n (apply o xs next)
 
-  pair_fits : (s : Sharing) (serves : Op → Bool) (apply : Op → List Places → List ℕ → Made Shares) → OperationFits apply → CallsFit hosts N (pair_calls s a b serves apply)
+  pair_fits : (s : Sharing) (serves : Op → Bool) (apply : Op → List Places → List ℕ → Made PartRegisters) → OperationFits apply → CallsFit hosts N (pair_calls s a b serves apply)
   pair_fits s serves apply law = record {
     literal = λ v m n next room.
         let r = roomy N 2 m n next (lit≤ tt) room in

@@ -9,7 +9,7 @@ use Rattle.vd_execution.specs.declared.instructions.Binary.TheVariants as binary
 use Rattle.vd_execution.specs.Gadgets.{Sharing, BySums, ByXors}
 use Rattle.vd_duet.specs.Calls.{Places, Made}
 use Rattle.vd_backend_sharing.specs.Gates.{Gate, And, Xor, Shl, Shr, Not, Flip, Lowest, Mask, gates_of}
-use Rattle.vd_backend_sharing.specs.declared.shares.Shares.{Shares}
+use Rattle.vd_backend_sharing.specs.declared.shares.PartRegisters.{PartRegisters}
 use Rattle.vd_backend_sharing.specs.PairCalls.{split_off, exchanged, shared_from, opened_by, shown_at, applied_shares, numbered_shares, product_shares, shares_of, places_at, operand, pair_calls}
 use Rattle.vd_words.specs.AddCalls.{add_serves, add_apply, add_calls}
 use Rattle.vd_bits.specs.BitCalls.{parts_at, turned_first, gate_shares, gates_shares, circuit_shares, computed}
@@ -55,20 +55,20 @@ difference_cost = lit≤ tt
 module _ (a b : HostId) where
   -- ---- gates
 
-  product_takes : (s : Sharing) (x y : Shares) (next : List ℕ) → let made = product_shares s a b x y next in Takes 28 next made.gadgets made.next
+  product_takes : (s : Sharing) (x y : PartRegisters) (next : List ℕ) → let made = product_shares s a b x y next in Takes 28 next made.gadgets made.next
   unfolding product_shares
   product_takes s x y next = record { acts = lit≤ tt; registers = both_grow a b 15 13 next }
 
-  applied_takes : (o : Binary) (x y : Shares) (next : List ℕ) → let made = applied_shares o a b x y next in Takes 2 next made.gadgets made.next
+  applied_takes : (o : Binary) (x y : PartRegisters) (next : List ℕ) → let made = applied_shares o a b x y next in Takes 2 next made.gadgets made.next
   applied_takes o x y next = record { acts = lit≤ tt; registers = both_grow a b 1 1 next }
 
-  numbered_takes : (o : Binary) (k : ℕ) (x : Shares) (next : List ℕ) → let made = numbered_shares o k a b x next in Takes 4 next made.gadgets made.next
+  numbered_takes : (o : Binary) (k : ℕ) (x : PartRegisters) (next : List ℕ) → let made = numbered_shares o k a b x next in Takes 4 next made.gadgets made.next
   numbered_takes o k x next = record { acts = lit≤ tt; registers = both_grow a b 2 2 next }
 
-  turned_takes : (k : ℕ) (x : Shares) (next : List ℕ) → let made = turned_first k a b x next in Takes 2 next made.gadgets made.next
+  turned_takes : (k : ℕ) (x : PartRegisters) (next : List ℕ) → let made = turned_first k a b x next in Takes 2 next made.gadgets made.next
   turned_takes k x next = record { acts = lit≤ tt; registers = one_grows a 2 next }
 
-  gate_takes : (g : Gate) (words : List Shares) (next : List ℕ) → let made = gate_shares a b g words next in Takes (gate_cost g) next made.gadgets made.next
+  gate_takes : (g : Gate) (words : List PartRegisters) (next : List ℕ) → let made = gate_shares a b g words next in Takes (gate_cost g) next made.gadgets made.next
   gate_takes (And x y) words next = product_takes ByXors (parts_at words x) (parts_at words y) next
   gate_takes (Xor x y) words next = applied_takes binary.Xor (parts_at words x) (parts_at words y) next
   gate_takes (Shl k x) words next = record { acts = lit≤ tt; registers = both_grow a b 1 1 next }
@@ -78,17 +78,17 @@ module _ (a b : HostId) where
   gate_takes (Lowest x) words next = numbered_takes binary.And 1 (parts_at words x) next
   gate_takes (Mask x) words next = record { acts = lit≤ tt; registers = both_grow a b 4 4 next }
 
-  gates_take : (gates : List Gate) (words : List Shares) (next : List ℕ) → let made = gates_shares a b gates words next in Takes (gates_cost gates) next made.gadgets made.next
+  gates_take : (gates : List Gate) (words : List PartRegisters) (next : List ℕ) → let made = gates_shares a b gates words next in Takes (gates_cost gates) next made.gadgets made.next
   gates_take [] words next = takes_none 0 next
   gates_take (g ∷ gates) words next =
-      let one : Made Shares = gate_shares a b g words next in
-      let rest : Made Shares = gates_shares a b gates (words ++ one.given ∷ []) one.next in
+      let one : Made PartRegisters = gate_shares a b g words next in
+      let rest : Made PartRegisters = gates_shares a b gates (words ++ one.given ∷ []) one.next in
       takes_both (gate_cost g) (gates_cost gates) next one.gadgets one.next rest.gadgets rest.next (gate_takes g words next) (gates_take gates (words ++ one.given ∷ []) one.next)
 
-  circuit_takes : (o : Op) (n : ℕ) → gates_cost (gates_of o) ≤ n → (words : List Shares) (next : List ℕ)
+  circuit_takes : (o : Op) (n : ℕ) → gates_cost (gates_of o) ≤ n → (words : List PartRegisters) (next : List ℕ)
       → let made = gates_shares a b (gates_of o) words next in Takes n next made.gadgets made.next
   circuit_takes o n few words next =
-      let made : Made Shares = gates_shares a b (gates_of o) words next in
+      let made : Made PartRegisters = gates_shares a b (gates_of o) words next in
       takes_more (gates_cost (gates_of o)) n next made.gadgets made.next few (gates_take (gates_of o) words next)
 
   -- ---- the other calls of a pair
@@ -96,11 +96,11 @@ module _ (a b : HostId) where
   shared_takes : (s : Sharing) (from : HostId) (x : Reg) (next : List ℕ) → let made = shared_from s a b from x next in Takes 3 next made.gadgets made.next
   shared_takes s from x next = at (nat_eq from.0 a.0)
     where
-      at : (z : Bool) → (let made : Made Shares = if z then split_off s a b x next else exchanged (split_off s b a x next) in Takes 3 next made.gadgets made.next)
+      at : (z : Bool) → (let made : Made PartRegisters = if z then split_off s a b x next else exchanged (split_off s b a x next) in Takes 3 next made.gadgets made.next)
       at true = record { acts = lit≤ tt; registers = both_grow a b 2 1 next }
       at false = record { acts = lit≤ tt; registers = both_grow b a 2 1 next }
 
-  shown_takes : (s : Sharing) (x : Shares) (to : HostId) (next : List ℕ) → let made = shown_at s a b x to next in Takes 2 next made.gadgets made.next
+  shown_takes : (s : Sharing) (x : PartRegisters) (to : HostId) (next : List ℕ) → let made = shown_at s a b x to next in Takes 2 next made.gadgets made.next
   shown_takes s x to next = at (nat_eq to.0 a.0)
     where
       at : (z : Bool) → (let made : Made Reg = if z then opened_by s b x.second a x.first next else opened_by s a x.first b x.second next in Takes 2 next made.gadgets made.next)
@@ -108,11 +108,11 @@ module _ (a b : HostId) where
       at false = record { acts = lit≤ tt; registers = one_grows b 2 next }
 
   -- two parts, by a call that takes less than is allowed
-  pair_word : (n most : ℕ) → n ≤ most → (made : Made Shares) (next : List ℕ) → Takes n next made.gadgets made.next
+  pair_word : (n most : ℕ) → n ≤ most → (made : Made PartRegisters) (next : List ℕ) → Takes n next made.gadgets made.next
       → WordTakes most next (record { given = places_at a b made.given; gadgets = made.gadgets; next = made.next })
   pair_word n most le made next f = record { takes = takes_more n most next made.gadgets made.next le f; given = lit≤ tt }
 
-  pair_takes : (s : Sharing) (serves : Op → Bool) (apply : Op → List Places → List ℕ → Made Shares)
+  pair_takes : (s : Sharing) (serves : Op → Bool) (apply : Op → List Places → List ℕ → Made PartRegisters)
       → ((o : Op) (xs : List Places) (next : List ℕ) → Takes (most_applied o) next (apply o xs next).gadgets (apply o xs next).next) → CallsTake (pair_calls s a b serves apply)
   pair_takes s serves apply law = record {
     literal = λ v next. record { takes = takes_more 2 most_plain next _ _ (lit≤ tt) (record { acts = lit≤ tt; registers = both_grow a b 1 1 next }); given = lit≤ tt };
@@ -143,7 +143,7 @@ module _ (a b : HostId) where
 
   pub to_bits_take : (x : Places) (next : List ℕ) → WordTakes most_moved next (to_xor_made a b x next)
   to_bits_take x next =
-      let words : Made (Shares × Shares) = masked_parts a b (shares_of x) next in
+      let words : Made (PartRegisters × PartRegisters) = masked_parts a b (shares_of x) next in
       let parts : List Places = places_at a b words.given.0 ∷ places_at a b words.given.1 ∷ [] in
       let sum : Made Places = computed a b op.Add parts words.next in
       let one : Takes 6 next words.gadgets words.next = record { acts = lit≤ tt; registers = both_grow a b 3 3 next } in
@@ -155,10 +155,10 @@ module _ (a b : HostId) where
 
   pub to_sums_take : (x : Places) (next : List ℕ) → WordTakes most_moved next (to_add_made a b x next)
   to_sums_take x next =
-      let pair : Made (Shares × Shares) = drawn a b (shares_of x) next in
+      let pair : Made (PartRegisters × PartRegisters) = drawn a b (shares_of x) next in
       let parts : List Places = x ∷ places_at a b pair.given.1 ∷ [] in
       let rest : Made Places = computed a b op.Sub parts pair.next in
-      let end : Made Shares = finished a b (shares_of rest.given) pair.given.0 rest.next in
+      let end : Made PartRegisters = finished a b (shares_of rest.given) pair.given.0 rest.next in
       let one : Takes 4 next pair.gadgets pair.next = record { acts = lit≤ tt; registers = both_grow a b 2 2 next } in
       let two : Takes 318 pair.next rest.gadgets rest.next = circuit_takes op.Sub 318 difference_cost (map shares_of parts) pair.next in
       let three : Takes 5 rest.next end.gadgets end.next = record { acts = lit≤ tt; registers = both_grow a b 3 2 rest.next } in

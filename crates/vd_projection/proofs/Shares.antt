@@ -7,7 +7,7 @@ use Rattle.vd_execution.specs.Text.{register}
 use Rattle.vd_duet.specs.Builder.{next_at, taken}
 use Rattle.vd_duet.specs.Calls.{Places}
 use Rattle.vd_duet.specs.Laws.{Each}
-use Rattle.vd_backend_sharing.specs.declared.shares.Shares.{Shares}
+use Rattle.vd_backend_sharing.specs.declared.shares.PartRegisters.{PartRegisters}
 use Rattle.vd_backend_sharing.specs.PairCalls.{literal_shares, split_off, exchanged, shared_from, adopted_shares, opened_by, shown_at, shown_to_both, kept_shares, renewed_shares}
 use Rattle.vd_projection.specs.Fits.{IsLow, GadgetFits, PlacesFit}
 use Rattle.vd_projection.proofs.Bounds.{low_more, taken_low, one_fits, RegFits}
@@ -55,7 +55,7 @@ module _ (hosts N : ℕ) (a b : HostId) (here : a.0 < hosts) (there : b.0 < host
       let q = z.1 in
       record { low = both_low a b 1 1 m n next low le; given = (omega (arith, p), omega (arith, q)); gadgets = ((omega (arith, p, most), tt), ((omega (arith, q, most), tt), tt)) }
 
-  pub kept_made : (x : Shares) (m n : ℕ) (next : List ℕ) → SharesFit m x → IsLow m next → m + 2 ≤ n → n ≤ N → SharesMade hosts N n (kept_shares a b x next)
+  pub kept_made : (x : PartRegisters) (m n : ℕ) (next : List ℕ) → SharesFit m x → IsLow m next → m + 2 ≤ n → n ≤ N → SharesMade hosts N n (kept_shares a b x next)
   kept_made x m n next f low le most =
       let z = starts a b m n 1 1 next low le in
       let p = z.0 in
@@ -68,7 +68,7 @@ module _ (hosts N : ℕ) (a b : HostId) (here : a.0 < hosts) (there : b.0 < host
         gadgets = (((omega (arith, p, most), omega (arith, x0, le, most)), tt), (((omega (arith, q, most), omega (arith, x1, le, most)), tt), tt));
       }
 
-  pub renewed_made : (kept x : Shares) (n : ℕ) → SharesFit n kept → SharesFit n x → n < N → Each (GadgetFits hosts N) (renewed_shares a b kept x)
+  pub renewed_made : (kept x : PartRegisters) (n : ℕ) → SharesFit n kept → SharesFit n x → n < N → Each (GadgetFits hosts N) (renewed_shares a b kept x)
   renewed_made kept x n f g lt =
       let k0 = f.0 in
       let k1 = f.1 in
@@ -83,7 +83,7 @@ module _ (hosts N : ℕ) (a b : HostId) (here : a.0 < hosts) (there : b.0 < host
       record { low = low_more (m + 1) n (taken b 1 next) (omega (arith, le)) (taken_low b 1 m next low); given = (omega (arith, r, le), omega (arith, p, le)); gadgets = ((omega (arith, p, le, most), tt), tt) }
 
   -- both open their parts
-  pub shown_made : (s : Sharing) (x : Shares) (m n : ℕ) (next : List ℕ) → SharesFit m x → IsLow m next → m + 4 ≤ n → n ≤ N → SharesMade hosts N n (shown_to_both s a b x next)
+  pub shown_made : (s : Sharing) (x : PartRegisters) (m n : ℕ) (next : List ℕ) → SharesFit m x → IsLow m next → m + 4 ≤ n → n ≤ N → SharesMade hosts N n (shown_to_both s a b x next)
   shown_made s x m n next f low le most =
       let z = starts a b m n 2 2 next low le in
       let p = z.0 in
@@ -113,7 +113,7 @@ module _ (hosts N : ℕ) (a b : HostId) (here : a.0 < hosts) (there : b.0 < host
           record { low = f.low; given = (f.given.1, f.given.0); gadgets = f.gadgets }
 
   -- one of them is shown the word
-  pub opened_to_one : (s : Sharing) (x : Shares) (to : HostId) (m n : ℕ) (next : List ℕ) → SharesFit m x → IsLow m next → m + 2 ≤ n → n ≤ N → RegFits hosts N 1 n (shown_at s a b x to next)
+  pub opened_to_one : (s : Sharing) (x : PartRegisters) (to : HostId) (m n : ℕ) (next : List ℕ) → SharesFit m x → IsLow m next → m + 2 ≤ n → n ≤ N → RegFits hosts N 1 n (shown_at s a b x to next)
   opened_to_one s x to m n next f low le most = at (nat_eq to.0 a.0)
     where
       at : (z : Bool) → RegFits hosts N 1 n (if z then opened_by s b x.second a x.first next else opened_by s a x.first b x.second next)

@@ -15,7 +15,7 @@ use Rattle.vd_duet.specs.Builder.{next_at}
 use Rattle.vd_duet.specs.Calls.{Places, Made, register_of}
 use Rattle.vd_clear.specs.Copies.{written_by, literal_at, kept_by, operated, applied_at, first_of, after_first, each_made, renewed}
 use Rattle.vd_backend_sharing.specs.Gates.{Gate, And, Xor as XorGate, Shl, Shr, Not, Flip, Lowest, Mask, gates_of}
-use Rattle.vd_backend_sharing.specs.declared.shares.Shares.{Shares}
+use Rattle.vd_backend_sharing.specs.declared.shares.PartRegisters.{PartRegisters}
 use Rattle.vd_backend_sharing.specs.PairCalls.{shares_of, product_shares}
 use Rattle.vd_words.specs.AddCalls.{add_apply}
 use Rattle.vd_bits.specs.BitCalls.{parts_at, gate_shares, gates_shares}
@@ -139,11 +139,11 @@ renewed_ordinary (q ∷ kept) x = (tt, renewed_ordinary kept x)
 
 -- ---- two hosts
 
-product_ordinary : (s : Sharing) (a b : HostId) (x y : Shares) (next : List ℕ) → AreOrdinary (product_shares s a b x y next).gadgets
+product_ordinary : (s : Sharing) (a b : HostId) (x y : PartRegisters) (next : List ℕ) → AreOrdinary (product_shares s a b x y next).gadgets
 unfolding product_shares
 product_ordinary s a b x y next = (tt, (tt, (tt, (tt, (tt, (tt, (tt, (tt, (tt, (tt, (tt, (tt, (tt, (tt, (tt, tt)))))))))))))))
 
-gate_ordinary : (a b : HostId) (g : Gate) (words : List Shares) (next : List ℕ) → AreOrdinary (gate_shares a b g words next).gadgets
+gate_ordinary : (a b : HostId) (g : Gate) (words : List PartRegisters) (next : List ℕ) → AreOrdinary (gate_shares a b g words next).gadgets
 gate_ordinary a b (And x y) words next = product_ordinary ByXors a b (parts_at words x) (parts_at words y) next
 gate_ordinary a b (XorGate x y) words next = (tt, (tt, tt))
 gate_ordinary a b (Shl k x) words next = (tt, (tt, tt))
@@ -153,10 +153,10 @@ gate_ordinary a b (Flip x) words next = (tt, (tt, tt))
 gate_ordinary a b (Lowest x) words next = (tt, (tt, (tt, (tt, tt))))
 gate_ordinary a b (Mask x) words next = (tt, (tt, (tt, (tt, (tt, (tt, (tt, (tt, tt))))))))
 
-pub gates_ordinary : (a b : HostId) (gates : List Gate) (words : List Shares) (next : List ℕ) → AreOrdinary (gates_shares a b gates words next).gadgets
+pub gates_ordinary : (a b : HostId) (gates : List Gate) (words : List PartRegisters) (next : List ℕ) → AreOrdinary (gates_shares a b gates words next).gadgets
 gates_ordinary a b [] words next = tt
 gates_ordinary a b (g ∷ gates) words next =
-    let one : Made Shares = gate_shares a b g words next in
+    let one : Made PartRegisters = gate_shares a b g words next in
     each_append IsOrdinary one.gadgets (gates_shares a b gates (words ++ one.given ∷ []) one.next).gadgets (gate_ordinary a b g words next) (gates_ordinary a b gates (words ++ one.given ∷ []) one.next)
 
 added_ordinary : (a b : HostId) (o : Op) (xs : List Places) (next : List ℕ) → AreOrdinary (add_apply a b o xs next).gadgets

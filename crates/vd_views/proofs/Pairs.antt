@@ -14,7 +14,7 @@ use Rattle.vd_execution.specs.Acts.{run_acts}
 use Rattle.vd_execution.specs.Gadgets.{Sharing, BySums, ByXors, Gadget, Alone, Opens, acts_of_gadget}
 use Rattle.vd_execution.proofs.Front.{put_same, put_other}
 use Rattle.vd_duet.specs.Builder.{next_at, taken}
-use Rattle.vd_backend_sharing.specs.declared.shares.Shares.{Shares}
+use Rattle.vd_backend_sharing.specs.declared.shares.PartRegisters.{PartRegisters}
 use Rattle.vd_backend_sharing.specs.Sharings.{join, joined}
 use Rattle.vd_backend_sharing.specs.PairCalls.{opened_by, shown_at, shown_to_both}
 use Rattle.vd_views.specs.Hiding.{opened}
@@ -34,10 +34,10 @@ opened_turned BySums p q = ap (λ (z : ℕ). z % 2 ^ 32) (add_comm p q)
 opened_turned ByXors p q = xor_turned p q
 
 -- the parts of a word at two hosts
-abbrev pub HaveWord : Sharing → HostId → HostId → Shares → ℕ → Hosts → Type 0
+abbrev pub HaveWord : Sharing → HostId → HostId → PartRegisters → ℕ → Hosts → Type 0
 HaveWord s a b x c w = joined s ((w a.0).registers x.first.0) ((w b.0).registers x.second.0) ≡ c
 
-module _ (h : ℕ) (t y : Tape) (kin : AreKin h t y) (s : Sharing) (a b : HostId) (apart : a.0 ≢ b.0) (x : Shares) (c d : ℕ) where
+module _ (h : ℕ) (t y : Tape) (kin : AreKin h t y) (s : Sharing) (a b : HostId) (apart : a.0 ≢ b.0) (x : PartRegisters) (c d : ℕ) where
   -- the first host's part to the second
   first_opens : (w v : Hosts) → HaveWord s a b x c w → HaveWord s a b x d v → (b.0 ≡ h → c ≡ d) → b.0 ≡ h
       → opened s ((w a.0).registers x.first.0) ((w b.0).registers x.second.0) ≡ opened s ((v a.0).registers x.first.0) ((v b.0).registers x.second.0)

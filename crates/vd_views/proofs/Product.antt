@@ -10,7 +10,7 @@ use Rattle.vd_execution.specs.Deals.{IsValidDeal}
 use Rattle.vd_execution.specs.Joint.{Hosts, fresh, after_msg}
 use Rattle.vd_execution.specs.Gadgets.{BySums}
 use Rattle.vd_duet.specs.Builder.{taken}
-use Rattle.vd_backend_sharing.specs.declared.shares.Shares.{Shares}
+use Rattle.vd_backend_sharing.specs.declared.shares.PartRegisters.{PartRegisters}
 use Rattle.vd_backend_sharing.specs.PairCalls.{shares_of, product_shares}
 use Rattle.vd_words.specs.Example.{alice}
 use Rattle.vd_views.specs.Hiding.{next_item, opened, GadgetsKnow, IsAnotherDeal}
@@ -26,7 +26,7 @@ never : (n : ℕ) → suc (suc n) < 2 → ⊥
 never n l = omega (arith, l)
 
 -- the registers of the product's parts, and the one in which bob hears alice's
-abbrev parts : Shares
+abbrev parts : PartRegisters
 parts = shares_of multiplied.given
 
 abbrev heard : ℕ

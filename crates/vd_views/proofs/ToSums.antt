@@ -18,7 +18,7 @@ use Rattle.vd_duet.specs.Builder.{taken}
 use Rattle.vd_duet.specs.Calls.{Places, Made}
 use Rattle.vd_duet.specs.Laws.{Operand, IsReady}
 use Rattle.vd_duet.proofs.Front.{taken_known, taken_there, taken_other}
-use Rattle.vd_backend_sharing.specs.declared.shares.Shares.{Shares}
+use Rattle.vd_backend_sharing.specs.declared.shares.PartRegisters.{PartRegisters}
 use Rattle.vd_backend_sharing.specs.PairCalls.{shares_of, places_at}
 use Rattle.vd_backend_sharing.proofs.Front.{Parts, parts_of, both_known, stands_by}
 use Rattle.vd_backend_sharing.specs.Gates.{gates_of}
@@ -44,7 +44,7 @@ module _ (a b : HostId) (apart : a.0 ≢ b.0) (next : List ℕ) (x : Places) whe
   abbrev second : Pairing
   second = pairing b (shares_of x).second m
 
-  abbrev pair : Made (Shares × Shares)
+  abbrev pair : Made (PartRegisters × PartRegisters)
   pair = drawn a b (shares_of x) next
 
   abbrev rest : Made Places
@@ -159,7 +159,7 @@ module _ (a b : HostId) (apart : a.0 ≢ b.0) (next : List ℕ) (x : Places) whe
         let more : Rest y v d = left y v ready' d o' in
         let w1 : Hosts = run_acts t (acts_of_gadget (Paired first second)) w in
         let v1 : Hosts = run_acts y (acts_of_gadget (Paired first second)) v in
-        let end : Made Shares = finished a b (shares_of rest.given) pair.given.0 rest.next in
+        let end : Made PartRegisters = finished a b (shares_of rest.given) pair.given.0 rest.next in
         let k : ℕ = slice_index rest.next a.0 in
         let l : ℕ = slice_index (taken a 3 rest.next) b.0 in
         let same_mark : l ≡ slice_index rest.next b.0 = taken_other a 3 rest.next b.0 (λ e. apart (sym e)) in (

@@ -12,7 +12,7 @@ use Rattle.vd_execution.specs.Gadgets.{Sharing, BySums, ByXors, Alone, Tells}
 use Rattle.vd_duet.specs.Builder.{next_at, taken}
 use Rattle.vd_duet.specs.Calls.{Places, hosts_of, Made}
 use Rattle.vd_clear.specs.Copies.{passed, told, compared, adopted, first_register, shown}
-use Rattle.vd_backend_sharing.specs.declared.shares.Shares.{Shares}
+use Rattle.vd_backend_sharing.specs.declared.shares.PartRegisters.{PartRegisters}
 use Rattle.vd_backend_sharing.specs.PairCalls.{shares_of, split_off, exchanged, shared_from, opened_by, shown_at}
 use Rattle.vd_backend_sharing.specs.Gates.{gates_of}
 use Rattle.vd_convert.specs.Convert.{masked_parts, to_xor_made, to_add_made}
@@ -62,7 +62,7 @@ shown_usual x k next = at (is_among (hosts_of x) k.0)
     at true = tt
     at false = each_append IsUsual (told x k next).gadgets (compared k (told x k next).given) (told_usual x k next) (compared_usual k (told x k next).given)
 
-opened_usual : (s : Sharing) (a b : HostId) (x : Shares) (k : HostId) (next : List ℕ) → AreUsual (shown_at s a b x k next).gadgets
+opened_usual : (s : Sharing) (a b : HostId) (x : PartRegisters) (k : HostId) (next : List ℕ) → AreUsual (shown_at s a b x k next).gadgets
 opened_usual s a b x k next = at (nat_eq k.0 a.0)
   where
     at : (z : Bool) → AreUsual (if z then opened_by s b x.second a x.first next else opened_by s a x.first b x.second next).gadgets

@@ -7,14 +7,14 @@ use Rattle.vd_base.specs.Costs.{added_cost}
 use Rattle.vd_execution.specs.declared.instructions.Binary.TheVariants as binary
 use Rattle.vd_execution.specs.Gadgets.{BySums}
 use Rattle.vd_duet.specs.Calls.{Places, Made, Calls}
-use Rattle.vd_backend_sharing.specs.declared.shares.Shares.{Shares}
+use Rattle.vd_backend_sharing.specs.declared.shares.PartRegisters.{PartRegisters}
 use Rattle.vd_backend_sharing.specs.PairCalls.{two, operand, applied_shares, numbered_shares, product_shares, pair_calls}
 
 -- the operations that the table of costs has at added parts
 abbrev pub add_serves : Op → Bool
 add_serves o = is_some (added_cost o)
 
-abbrev pub add_apply : HostId → HostId → Op → List Places → List ℕ → Made Shares
+abbrev pub add_apply : HostId → HostId → Op → List Places → List ℕ → Made PartRegisters
 add_apply a b op.Add xs next = applied_shares binary.Add a b (operand xs 0) (operand xs 1) next
 add_apply a b op.Sub xs next = applied_shares binary.Sub a b (operand xs 0) (operand xs 1) next
 add_apply a b (op.Scale k) xs next = numbered_shares binary.Mul k a b (operand xs 0) next

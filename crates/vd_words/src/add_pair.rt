@@ -7,7 +7,7 @@ ghost use Rattle.vd_backend_sharing.specs.declared.shares.Sharing.TheVariants as
 ghost use Rattle.vd_words.specs.AddCalls.{add_calls};
 
 use std::alloc::{AllocError, Global};
-use vd_backend_sharing::{Pair, Shares, Sharing};
+use vd_backend_sharing::{Pair, PartRegisters, Sharing};
 use vd_base::{HostId, Items, Op, Proto};
 use vd_duet::{Args, Backend, Clear, Duet, Parts};
 use vd_execution::{Binary, Reg};
@@ -21,7 +21,7 @@ pub struct AddShare(pub Reg);
 pub struct AddPair(pub HostId, pub HostId);
 
 /// The registers of an operand that is missing.
-const NONE: Shares = Shares {
+const NONE: PartRegisters = PartRegisters {
     first: Reg(0),
     second: Reg(0),
 };
@@ -37,7 +37,7 @@ impl AddPair {
         }
     }
 
-    fn parts(&self, x: Shares, alloc: Global) -> Result<Parts<AddShare>, AllocError>
+    fn parts(&self, x: PartRegisters, alloc: Global) -> Result<Parts<AddShare>, AllocError>
         ensures { IfOk result (λ y. placed (λ part. part.0) y ≡ places_at self.now.0 self.now.1 x) }
     {
         Ok(Items::from_slice(
@@ -46,7 +46,7 @@ impl AddPair {
         )?)
     }
 
-    fn copies(&self, x: Shares, alloc: Global) -> Result<Parts<Clear>, AllocError>
+    fn copies(&self, x: PartRegisters, alloc: Global) -> Result<Parts<Clear>, AllocError>
         ensures { IfOk result (λ y. in_clear y ≡ places_at self.now.0 self.now.1 x) }
     {
         Ok(Items::from_slice(
@@ -57,11 +57,11 @@ impl AddPair {
 }
 
 /// The registers of the two parts of a word.
-fn shares(x: &Parts<AddShare>) -> Shares
+fn shares(x: &Parts<AddShare>) -> PartRegisters
     ensures { result ≡ shares_of (placed (λ part. part.0) x.now) }
 {
     match x.as_slice() {
-        [first, second, ..] => Shares {
+        [first, second, ..] => PartRegisters {
             first: first.1.0,
             second: second.1.0,
         },
@@ -70,7 +70,7 @@ fn shares(x: &Parts<AddShare>) -> Shares
 }
 
 /// The first operand.
-fn first(args: &Args<AddShare>) -> Shares
+fn first(args: &Args<AddShare>) -> PartRegisters
     ensures { result ≡ operand (all_placed (λ part. part.0) args.now) 0 }
 {
     match args.as_slice() {
@@ -80,7 +80,7 @@ fn first(args: &Args<AddShare>) -> Shares
 }
 
 /// The second operand.
-fn second(args: &Args<AddShare>) -> Shares
+fn second(args: &Args<AddShare>) -> PartRegisters
     ensures { result ≡ operand (all_placed (λ part. part.0) args.now) 1 }
 {
     match args.as_slice() {
