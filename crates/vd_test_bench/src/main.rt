@@ -1,37 +1,37 @@
-//! Timed work, outside of what is promised: prints one line of what a job made, which is the same in every run.
+//! Timed work and comparisons, outside of what is promised. Jobs are read from standard input, a line each:
 //!
 //!     deal N     makes, writes and reads the deals of two hosts with N own words and N items of each kind
 //!     world N    runs a loop of N turns at one of two hosts
 //!     talk N     runs N turns of two hosts, in each of which a word goes from one to the other
+//!     wcsp       writes the choice of protocols for a source as a weighted constraint network (WCSP), the format that exact solvers
+//!                read; the source stands before it, each of its lines behind `|`
+//!
+//! A job with a number prints one line of what it made, which is the same in every run.
 #![tactic(auto)]
 
 mod dealing;
 mod hosts;
+mod jobs;
+mod network;
+mod settings;
+mod sources;
 
-use anyhow::bail;
-use std::env;
+use std::io::{self, BufRead, BufReader, BufWriter, Write};
 
 fn main(rt: HostRuntime) -> anyhow::Result<()> {
     let alloc = rt.alloc();
-    let mut words = env::args(&rt)?.skip(1);
-    let (Some(job), Some(number)) = (words.next(), words.next()) else {
-        bail!("expected a job and a number");
-    };
-    let count: u32 = number.as_str().parse()?;
-    match job.as_str() {
-        "deal" => {
-            let bytes = dealing::deal(alloc, count)?;
-            println!(rt; "deal {count} ok {bytes}")?;
+    let mut to = BufWriter::new(alloc, io::writer(&rt))?;
+    let mut source = String::new(alloc);
+    for line in BufReader::new(alloc, rt.reader())?.lines(alloc) {
+        let line = line?;
+        if let Some(text) = line.as_str().strip_prefix("|") {
+            source.push_str(text)?;
+            source.push('\n')?;
+        } else {
+            jobs::run(alloc, &mut to, line.as_str(), source.as_str())?;
+            source.clear();
         }
-        "world" => {
-            let run = hosts::world(alloc, count)?;
-            println!(rt; "world {count} {} {}", run.steps, run.printed)?;
-        }
-        "talk" => {
-            let run = hosts::talk(alloc, count)?;
-            println!(rt; "talk {count} {} {}", run.steps, run.printed)?;
-        }
-        _ => bail!("no such job"),
     }
+    to.flush()?;
     Ok(())
 }

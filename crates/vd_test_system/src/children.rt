@@ -1,3 +1,5 @@
+//! Child programs that a shell plays.
+
 ghost use Rattle.std.specs.Prelude.{◌≡◌, ◌<◌, ◌≤◌};
 
 use std::alloc::{AllocError, Global};

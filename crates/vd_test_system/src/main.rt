@@ -1,7 +1,9 @@
 //! Prints what the objects of the system do: files that are stored and fetched, stores of which some steps are refused, streams that
-//! take a byte at a time, and links over the loopback, also where a stranger comes first. `stdout` has what is to come.
+//! take a byte at a time, links over the loopback, also where a stranger comes first, and child programs that a shell plays, alone
+//! and side by side. `stdout` has what is to come.
 #![tactic(auto)]
 
+mod children;
 mod files;
 mod kept;
 mod links;
@@ -17,7 +19,8 @@ fn print_all<W: Write>(to: &mut W, rt: &HostRuntime, alloc: Global) -> io::Resul
     kept::print_kept(to, rt, alloc)?;
     stores::print_stores(to, alloc)?;
     streams::print_streams(to, alloc)?;
-    links::print_links(to, rt, alloc, rt.process())
+    links::print_links(to, rt, alloc, rt.process())?;
+    children::print_children(to, rt, alloc)
 }
 
 fn main(rt: HostRuntime) -> io::Result<()> {

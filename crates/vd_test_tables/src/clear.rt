@@ -1,4 +1,4 @@
-//! Words in clear at three hosts.
+//! Worked code of a back end: words in clear at three hosts.
 
 ghost use Rattle.std.specs.Prelude.{◌≡◌, ◌<◌, IfOk, OnOk, length, replicate};
 ghost use Rattle.vd_duet.specs.Builder.{HasRoom, TakesAtMost};
@@ -6,13 +6,12 @@ ghost use Rattle.vd_duet.specs.Calls.{hosts_of, placed};
 ghost use Rattle.vd_base.specs.Holders.{holders};
 ghost use Rattle.vd_duet.specs.Laws.{AreKnown};
 
-use crate::code::print_code;
+use crate::code::{first_of, print_code};
 use std::alloc::{AllocError, Global};
 use std::io::{self, Write};
 use vd_base::{HostId, HostSet, Items, Op};
 use vd_clear::{LocalHost, Replica, spread};
 use vd_duet::{Backend, Clear, Duet, Parts};
-use vd_execution::Reg;
 
 /// A number that is kept, and written over by itself.
 fn kept<B: Backend>(back_end: &B, to: &mut Duet) -> Result<Parts<B::Part>, AllocError>
@@ -54,13 +53,6 @@ fn moved(to: &mut Duet) -> Result<Parts<Clear>, AllocError>
     let mut operands = Items::new(to.alloc());
     operands.push(last)?;
     LocalHost(HostId(2)).apply(Op::Flip, &operands, to)
-}
-
-fn first_of(x: &Parts<Clear>) -> Reg {
-    match x.as_slice() {
-        [part, ..] => part.1.0,
-        [] => Reg(0),
-    }
 }
 
 /// Host 1 shares a number with host 0; both tell host 2, which turns its lowest bit.

@@ -1,13 +1,13 @@
-//! Words that two hosts share by exclusive or.
+//! Worked code of a back end: words that two hosts share by exclusive or.
 
 ghost use Rattle.std.specs.Prelude.{◌≡◌, ◌<◌, IfOk, OnOk, length};
 ghost use Rattle.vd_base.specs.Holders.{holders};
 ghost use Rattle.vd_duet.specs.Builder.{HasRoom, TakesAtMost};
 ghost use Rattle.vd_duet.specs.Laws.{AreKnown};
 ghost use Rattle.vd_circuit.specs.CircuitCalls.{circuit_calls};
-ghost use Rattle.vd_test_backends.specs.Serving.{ServesOfTwo};
+ghost use Rattle.vd_test_tables.specs.Serving.{ServesOfTwo};
 
-use crate::code::print_code;
+use crate::code::{first_of, print_code};
 use std::alloc::{AllocError, Global};
 use std::io::{self, Write};
 use vd_base::{HostId, Items, Op};
@@ -15,14 +15,6 @@ use vd_bits::{XorPair, XorShare};
 use vd_circuit::CircuitPair;
 use vd_clear::LocalHost;
 use vd_duet::{Args, Backend, Clear, Duet, Parts};
-use vd_execution::Reg;
-
-fn first_of(x: &Parts<Clear>) -> Reg {
-    match x.as_slice() {
-        [part, ..] => part.1.0,
-        [] => Reg(0),
-    }
-}
 
 /// A number of one of the two hosts, shared.
 fn shared<B: Backend>(

@@ -1,6 +1,8 @@
+//! What goes over a sealed link, at the values of a second implementation.
+
 ghost use Rattle.std.specs.Prelude.{◌≤◌, length};
 
-use crate::{counted, print};
+use crate::bytes::{counted, print_bytes};
 use std::alloc::Global;
 use std::io::{self, Write};
 use vd_base::HostId;
@@ -74,7 +76,7 @@ fn print_record<W: Write>(
     requires { length bytes.now ≤ 128 }
 {
     frame.set_record(keys, number, bytes);
-    print(to, name, frame.as_slice())
+    print_bytes(to, name, frame.as_slice())
 }
 
 /// Prints the records of a proof, a greeting and packets of one host, and those of a proof and a greeting of the other.
@@ -140,21 +142,21 @@ fn print_opening<W: Write>(
 }
 
 /// Prints what goes over a link: hellos, keys, a nonce and records.
-pub(crate) fn print_all<W: Write>(to: &mut W, alloc: Global) -> anyhow::Result<()> {
+pub(crate) fn print<W: Write>(to: &mut W, alloc: Global) -> anyhow::Result<()> {
     let mut frame = Frame::new(alloc)?;
     let zero = hello(0, 1, 0xa0);
     let one = hello(1, 0, 0xb1);
     frame.set_hello(&zero);
-    print(to, "hello of 0", frame.as_slice())?;
+    print_bytes(to, "hello of 0", frame.as_slice())?;
     frame.set_hello(&one);
-    print(to, "hello of 1", frame.as_slice())?;
+    print_bytes(to, "hello of 1", frame.as_slice())?;
     let (own, other) = frame.keys_of(&LINK, &zero, &one);
-    print(to, "cipher key of 0", &own.cipher)?;
-    print(to, "code key of 0", &own.code)?;
+    print_bytes(to, "cipher key of 0", &own.cipher)?;
+    print_bytes(to, "code key of 0", &own.code)?;
     let (back, _own) = frame.keys_of(&LINK, &one, &zero);
-    print(to, "cipher key of 1", &back.cipher)?;
-    print(to, "code key of 1", &back.code)?;
-    print(to, "nonce", &nonce(&counted(), HostId(1), 3))?;
+    print_bytes(to, "cipher key of 1", &back.cipher)?;
+    print_bytes(to, "code key of 1", &back.code)?;
+    print_bytes(to, "nonce", &nonce(&counted(), HostId(1), 3))?;
     print_records(to, &mut frame, &own, &other)?;
     print_opening(to, &mut frame, &own, &other)?;
     Ok(())

@@ -1,7 +1,16 @@
-//! How code is printed.
+//! Where an answer stands, and how code is printed.
 
 use std::io::{self, Write};
+use vd_duet::{Clear, Parts};
 use vd_execution::{Line, Reg};
+
+/// The register of the first part, or register 0.
+pub(crate) fn first_of(x: &Parts<Clear>) -> Reg {
+    match x.as_slice() {
+        [part, ..] => part.1.0,
+        [] => Reg(0),
+    }
+}
 
 /// Prints a name, each line of code, and where the answer stands.
 pub(crate) fn print_code<W: Write>(

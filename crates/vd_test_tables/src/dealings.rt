@@ -1,10 +1,12 @@
-use crate::{counted, print};
+//! The keys of a dealing, at the values of a second implementation.
+
+use crate::bytes::{counted, print_bytes};
 use std::io::{self, Write};
 use vd_channel_crypto::{dealing_id, items_key, link_key};
 use vd_tape::Counts;
 
 /// Prints what the bytes from 0 to 31 make for a dealing of four own words and two products to two hosts.
-pub(crate) fn print_all<W: Write>(to: &mut W) -> io::Result<()> {
+pub(crate) fn print<W: Write>(to: &mut W) -> io::Result<()> {
     let key = counted();
     let counts = Counts {
         hosts: 2,
@@ -13,7 +15,7 @@ pub(crate) fn print_all<W: Write>(to: &mut W) -> io::Result<()> {
         ands: 0,
         pairs: 0,
     };
-    print(to, "id", &dealing_id(counts, &key))?;
-    print(to, "items", &items_key(counts, &key))?;
-    print(to, "link 0 1", &link_key(counts, &key, 0, 1))
+    print_bytes(to, "id", &dealing_id(counts, &key))?;
+    print_bytes(to, "items", &items_key(counts, &key))?;
+    print_bytes(to, "link 0 1", &link_key(counts, &key, 0, 1))
 }

@@ -1,23 +1,15 @@
-//! Words that two hosts share as sums.
+//! Worked code of a back end: words that two hosts share as sums.
 
 ghost use Rattle.std.specs.Prelude.{◌≡◌, length};
 ghost use Rattle.vd_duet.specs.Builder.{HasRoom};
 
-use crate::code::print_code;
+use crate::code::{first_of, print_code};
 use std::alloc::{AllocError, Global};
 use std::io::{self, Write};
 use vd_base::{HostId, Items, Op};
 use vd_clear::LocalHost;
-use vd_duet::{Backend, Clear, Duet, Parts};
-use vd_execution::Reg;
+use vd_duet::{Backend, Clear, Duet};
 use vd_words::{AddPair, AddShare};
-
-fn first_of(x: &Parts<Clear>) -> Reg {
-    match x.as_slice() {
-        [part, ..] => part.1.0,
-        [] => Reg(0),
-    }
-}
 
 fn multiplied(to: &mut Duet) -> Result<Clear, AllocError>
     requires hosts { length to.old.next ≡ 2 }
