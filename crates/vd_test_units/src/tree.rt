@@ -1,6 +1,6 @@
 //! A tree of all lists of so many bits, on which a search and a checker run.
 ghost use Rattle.std.specs.Prelude.{◌≡◌, ◌<◌, ◌≤◌, length, take};
-ghost use Rattle.vd_test_choice.specs.Words.{words};
+ghost use Rattle.vd_test_units.specs.Words.{words};
 
 use std::alloc::{AllocError, Global};
 use vd_base::Items;

@@ -2,7 +2,7 @@
 
 use TokenKind::*;
 use std::alloc::Global;
-use vd_source_lexer::{LexFault, Token, TokenKind, tokens};
+use vd_source_lexer::{Token, TokenKind, tokens};
 
 /// The kind of a token, the offsets of its start and its end, and its value.
 type Row = (TokenKind, u32, u32, u32);
@@ -29,18 +29,6 @@ fn has_tokens(alloc: Global, text: &str, rows: &[Row]) -> bool {
     match tokens(alloc, bytes) {
         Ok(found) => are_tokens(found.as_slice(), rows),
         Err(_) => false,
-    }
-}
-
-/// The offset of the first bad byte, if there is one in a text of at most 100 bytes.
-fn bad_byte(alloc: Global, bytes: &[u8]) -> Option<u32> {
-    if bytes.len() > 100 {
-        return None;
-    }
-    match tokens(alloc, bytes) {
-        Ok(_found) => None,
-        Err(LexFault::BadByte(offset)) => Some(offset),
-        Err(LexFault::Memory) => None,
     }
 }
 
@@ -105,24 +93,6 @@ const TEXTS: [(&str, &[Row]); 10] = [
 fn texts_have_their_tokens(rt: HostRuntime) {
     for (text, rows) in TEXTS {
         assert!(rt; has_tokens(rt.alloc(), text, rows), "{text}");
-    }
-}
-
-/// Texts and the offsets of their bad bytes.
-const BAD: [(&[u8], u32); 7] = [
-    (b"05", 0),
-    (b"x 4294967296", 2),
-    (b"a $ b", 2),
-    (b"// ok \xff\n\xff", 8),
-    (b"00", 0),
-    (b"a.b", 1),
-    (b"12345678901", 0),
-];
-
-#[test]
-fn bad_bytes_have_their_offsets(rt: HostRuntime) {
-    for (bytes, offset) in BAD {
-        assert_eq!(rt; bad_byte(rt.alloc(), bytes), Some(offset), "{bytes:?}");
     }
 }
 
