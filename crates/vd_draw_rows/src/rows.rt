@@ -11,8 +11,8 @@ use crate::moves::{element_moves, move_of, one_move, operation_cost, right_moves
 use crate::parts::takes_part_in_either;
 use crate::row::{Kind, Move, Row};
 use crate::texts::{
-    array_text, binding_text, branch_text, loop_text, output_text, put_text, store_text,
-    variable_text,
+    push_array, push_binding, push_branch, push_loop, push_output, push_put, push_store,
+    push_variable,
 };
 use std::alloc::{AllocError, Global};
 use vd_base::{Bytes, HostId, Items, Proto, SlotId, proto_of};
@@ -170,7 +170,8 @@ fn binding_row(
     let at = proto_of(placed.list, slot);
     let form = placed.form;
     let slots = form.slots.as_slice();
-    let text = binding_text(alloc, &form.hosts, slots, slot, right)?;
+    let mut text = Bytes::new(alloc);
+    push_binding(&mut text, &form.hosts, slots, slot, right)?;
     let line = slot_line(alloc, placed.source, slots, slot, text.as_slice())?;
     Ok(Row {
         kind: Kind::Binding,
@@ -206,7 +207,8 @@ fn variable_row(
 {
     let at = proto_of(placed.list, variable);
     let slots = placed.form.slots.as_slice();
-    let text = variable_text(alloc, slots, variable, value)?;
+    let mut text = Bytes::new(alloc);
+    push_variable(&mut text, slots, variable, value)?;
     let line = slot_line(alloc, placed.source, slots, variable, text.as_slice())?;
     Ok(Row {
         kind: Kind::Variable,
@@ -233,7 +235,8 @@ fn array_row(
         around.weight around.depth array cells) }
 {
     let slots = placed.form.slots.as_slice();
-    let text = array_text(alloc, slots, array, cells)?;
+    let mut text = Bytes::new(alloc);
+    push_array(&mut text, slots, array, cells)?;
     let line = slot_line(alloc, placed.source, slots, array, text.as_slice())?;
     Ok(Row {
         kind: Kind::Variable,
@@ -260,13 +263,15 @@ fn store_row(
         around.weight around.depth variable value) }
 {
     let at = proto_of(placed.list, variable);
+    let mut text = Bytes::new(alloc);
+    push_store(&mut text, placed.form.slots.as_slice(), variable, value)?;
     Ok(Row {
         kind: Kind::Store,
         depth: around.depth,
         slot: None,
         line: None,
         at: Some(at),
-        text: store_text(alloc, placed.form.slots.as_slice(), variable, value)?,
+        text,
         moves: one_move(alloc, placed.list, value, at)?,
         operation: 0,
         weight: around.weight,
@@ -288,13 +293,15 @@ fn put_row(
 {
     let at = proto_of(placed.list, array);
     let last = move_of(placed.list, value, at);
+    let mut text = Bytes::new(alloc);
+    push_put(&mut text, placed.form.slots.as_slice(), array, index, value)?;
     Ok(Row {
         kind: Kind::Store,
         depth: around.depth,
         slot: None,
         line: None,
         at: Some(at),
-        text: put_text(alloc, placed.form.slots.as_slice(), array, index, value)?,
+        text,
         moves: element_moves(
             alloc,
             placed.list,
@@ -323,7 +330,8 @@ fn output_row(
     let at = Proto::Local(host);
     let form = placed.form;
     let slots = form.slots.as_slice();
-    let text = output_text(alloc, &form.hosts, slots, value, host)?;
+    let mut text = Bytes::new(alloc);
+    push_output(&mut text, &form.hosts, slots, value, host)?;
     let line = line_at(alloc, placed.source, offset, text.as_slice())?;
     Ok(Row {
         kind: Kind::Output,
@@ -376,7 +384,8 @@ fn branch_row(
         around.weight around.depth guard (block first.now) (block other.now) offset) }
 {
     let slots = placed.form.slots.as_slice();
-    let text = branch_text(alloc, slots, guard)?;
+    let mut text = Bytes::new(alloc);
+    push_branch(&mut text, slots, guard)?;
     let line = line_at(alloc, placed.source, offset, text.as_slice())?;
     Ok(Row {
         kind: Kind::Branch,
@@ -412,13 +421,15 @@ fn otherwise_row(alloc: Global, around: Around) -> Result<Row, AllocError>
 fn loop_row(alloc: Global, around: Around, count: u32) -> Result<Row, AllocError>
     ensures { IfOk result (λ row. row ≡ rows_spec.loop_row around.weight around.depth count) }
 {
+    let mut text = Bytes::new(alloc);
+    push_loop(&mut text, count)?;
     Ok(Row {
         kind: Kind::Loop,
         depth: around.depth,
         slot: None,
         line: None,
         at: None,
-        text: loop_text(alloc, count)?,
+        text,
         moves: Items::new(alloc),
         operation: 0,
         weight: around.weight,

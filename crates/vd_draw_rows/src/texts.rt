@@ -220,117 +220,105 @@ fn push_right(
     }
 }
 
-/// A binding: the name of the slot and the right side.
-pub(crate) fn binding_text(
-    alloc: Global,
+/// Puts a binding at the end: the name of the slot and the right side.
+pub(crate) fn push_binding(
+    text: &mut Bytes,
     hosts: &Names,
     slots: &[Slot],
     slot: SlotId,
     right: &Right,
-) -> Result<Bytes, AllocError>
-    ensures { IfOk result (λ text. text ≡ texts.binding_text hosts.now slots.now slot right.now) }
+) -> Result<(), AllocError>
+    ensures { OnOk result (text.new ≡ text.old ++ texts.binding_text hosts.now slots.now slot right.now) }
 {
-    let mut text = Bytes::new(alloc);
-    push_name(&mut text, slots, slot)?;
+    push_name(text, slots, slot)?;
     text.extend_from_slice(b" = ")?;
-    push_right(&mut text, hosts, slots, right)?;
-    Ok(text)
+    push_right(text, hosts, slots, right)
 }
 
-/// A variable and its first word.
-pub(crate) fn variable_text(
-    alloc: Global,
+/// Puts a variable and its first word at the end.
+pub(crate) fn push_variable(
+    text: &mut Bytes,
     slots: &[Slot],
     variable: SlotId,
     value: SlotId,
-) -> Result<Bytes, AllocError>
-    ensures { IfOk result (λ text. text ≡ texts.variable_text slots.now variable value) }
+) -> Result<(), AllocError>
+    ensures { OnOk result (text.new ≡ text.old ++ texts.variable_text slots.now variable value) }
 {
-    let mut text = Bytes::from_slice(alloc, b"var ")?;
-    push_name(&mut text, slots, variable)?;
-    push_word_and_name(&mut text, slots, b" := ", value)?;
-    Ok(text)
+    text.extend_from_slice(b"var ")?;
+    push_name(text, slots, variable)?;
+    push_word_and_name(text, slots, b" := ", value)
 }
 
-/// An array and how many words it has.
-pub(crate) fn array_text(
-    alloc: Global,
+/// Puts an array and how many words it has at the end.
+pub(crate) fn push_array(
+    text: &mut Bytes,
     slots: &[Slot],
     array: SlotId,
     cells: u32,
-) -> Result<Bytes, AllocError>
-    ensures { IfOk result (λ text. text ≡ texts.array_text slots.now array cells) }
+) -> Result<(), AllocError>
+    ensures { OnOk result (text.new ≡ text.old ++ texts.array_text slots.now array cells) }
 {
-    let mut text = Bytes::from_slice(alloc, b"array ")?;
-    push_name(&mut text, slots, array)?;
-    push_word_and_number(&mut text, b"[", cells)?;
-    text.extend_from_slice(b"]")?;
-    Ok(text)
+    text.extend_from_slice(b"array ")?;
+    push_name(text, slots, array)?;
+    push_word_and_number(text, b"[", cells)?;
+    text.extend_from_slice(b"]")
 }
 
-/// What is stored in a variable.
-pub(crate) fn store_text(
-    alloc: Global,
+/// Puts what is stored in a variable at the end.
+pub(crate) fn push_store(
+    text: &mut Bytes,
     slots: &[Slot],
     variable: SlotId,
     value: SlotId,
-) -> Result<Bytes, AllocError>
-    ensures { IfOk result (λ text. text ≡ texts.store_text slots.now variable value) }
+) -> Result<(), AllocError>
+    ensures { OnOk result (text.new ≡ text.old ++ texts.store_text slots.now variable value) }
 {
-    let mut text = Bytes::new(alloc);
-    push_name(&mut text, slots, variable)?;
-    push_word_and_name(&mut text, slots, b" := ", value)?;
-    Ok(text)
+    push_name(text, slots, variable)?;
+    push_word_and_name(text, slots, b" := ", value)
 }
 
-/// What is stored in an array.
-pub(crate) fn put_text(
-    alloc: Global,
+/// Puts what is stored in an array at the end.
+pub(crate) fn push_put(
+    text: &mut Bytes,
     slots: &[Slot],
     array: SlotId,
     index: SlotId,
     value: SlotId,
-) -> Result<Bytes, AllocError>
-    ensures { IfOk result (λ text. text ≡ texts.put_text slots.now array index value) }
+) -> Result<(), AllocError>
+    ensures { OnOk result (text.new ≡ text.old ++ texts.put_text slots.now array index value) }
 {
-    let mut text = Bytes::new(alloc);
-    push_element(&mut text, slots, array, index)?;
-    push_word_and_name(&mut text, slots, b" := ", value)?;
-    Ok(text)
+    push_element(text, slots, array, index)?;
+    push_word_and_name(text, slots, b" := ", value)
 }
 
-/// What is told to a host.
-pub(crate) fn output_text(
-    alloc: Global,
+/// Puts what is told to a host at the end.
+pub(crate) fn push_output(
+    text: &mut Bytes,
     hosts: &Names,
     slots: &[Slot],
     value: SlotId,
     host: HostId,
-) -> Result<Bytes, AllocError>
-    ensures { IfOk result (λ text. text ≡ texts.output_text hosts.now slots.now value host) }
+) -> Result<(), AllocError>
+    ensures { OnOk result (text.new ≡ text.old ++ texts.output_text hosts.now slots.now value host) }
 {
-    let mut text = Bytes::from_slice(alloc, b"output ")?;
-    push_name(&mut text, slots, value)?;
+    text.extend_from_slice(b"output ")?;
+    push_name(text, slots, value)?;
     text.extend_from_slice(b" to ")?;
-    text.extend_from_slice(name_of(hosts, usize::from(host.0)))?;
-    Ok(text)
+    text.extend_from_slice(name_of(hosts, usize::from(host.0)))
 }
 
-/// The guard of a branch.
-pub(crate) fn branch_text(alloc: Global, slots: &[Slot], guard: SlotId) -> Result<Bytes, AllocError>
-    ensures { IfOk result (λ text. text ≡ texts.branch_text slots.now guard) }
+/// Puts the guard of a branch at the end.
+pub(crate) fn push_branch(text: &mut Bytes, slots: &[Slot], guard: SlotId) -> Result<(), AllocError>
+    ensures { OnOk result (text.new ≡ text.old ++ texts.branch_text slots.now guard) }
 {
-    let mut text = Bytes::from_slice(alloc, b"if ")?;
-    push_name(&mut text, slots, guard)?;
-    Ok(text)
+    text.extend_from_slice(b"if ")?;
+    push_name(text, slots, guard)
 }
 
-/// How often a loop is done.
-pub(crate) fn loop_text(alloc: Global, count: u32) -> Result<Bytes, AllocError>
-    ensures { IfOk result (λ text. text ≡ texts.loop_text count) }
+/// Puts how often a loop is done at the end.
+pub(crate) fn push_loop(text: &mut Bytes, count: u32) -> Result<(), AllocError>
+    ensures { OnOk result (text.new ≡ text.old ++ texts.loop_text count) }
 {
-    let mut text = Bytes::new(alloc);
-    push_word_and_number(&mut text, b"", count)?;
-    text.extend_from_slice(b" times")?;
-    Ok(text)
+    push_word_and_number(text, b"", count)?;
+    text.extend_from_slice(b" times")
 }
