@@ -14,7 +14,7 @@ use Rattle.vd_cmd_choice.specs.Programs.{HoldsProgram, LoadsProgram, program_the
 use Rattle.vd_cmd_choice.specs.Choice.{IsSelected, no_list}
 use Rattle.vd_cmd_files.specs.declared.asked.Asked.{Asked}
 use Rattle.vd_cmd_files.specs.Asking.{HoldAsked}
-use Rattle.vd_cmd_replay.specs.Counting.{CountsOf, CountsProgram, CountsReplay, IsCountOf, packets_for}
+use Rattle.vd_cmd_replay.specs.Counting.{CountsOf, CountsReplay, IsCount, packets_for}
 
 -- at the choice of protocols
 pub choice_counted : (program : NormalForm) (a : Assignment) (asked : Asked) (packets : Option ℕ) (result : Result Answer Status) → IsSelected program a
@@ -26,28 +26,24 @@ choice_counted program a asked packets (Err status) selected is = tt
 pub none_counted : (program : NormalForm) (asked : Asked) (packets : Option ℕ) (found : LabelledForm) (answer : Answer) → answer ≡ no_list found → CountsOf program asked packets (Ok answer)
 none_counted program asked packets found answer is = λ e. let wrong : NoAssignment found ≡ Ended = sym (ap (λ (a : Answer). a.status) is) ∙ e in absurd (cc wrong)
 
-module _ (words : ReplayWords) (before : FilesView) (packets : Option ℕ) where
-  pub program_counted : (program form : NormalForm) (asked : Asked) (result : Result Answer Status) → form ≡ program → (IsTrue before.told → HoldAsked words form.hosts before.contents asked)
-      → CountsOf program asked packets result → CountsProgram words program before packets result
-  program_counted program form asked (Ok answer) same held counts = λ t e. record {
-    asked = asked;
-    held = subst (λ (f : NormalForm). HoldAsked words f.hosts before.contents asked) same (held t);
-    count = counts e;
-  }
-  program_counted program form asked (Err status) same held counts = λ t. tt
-
-  -- the files say the same after the source was fetched
-  pub replay_counted : (mid : FilesView) (program : NormalForm) (result : Result Answer Status) → LoadsProgram words.source before mid (Ok program)
-      → (IsTrue before.told → HoldsProgram words.source before.contents program) → CountsProgram words program mid packets result → CountsReplay words before packets result
-  replay_counted mid program (Ok answer) loads held counts = λ t e.
-      let step = program_then some_texts some_labels words.source in
-      let is = held t in
-      record {
-        source = is.holds.source;
-        is_source = record { bytes = is.bytes; is_fetched = is.is_fetched; holds = is.holds.read };
-        program = program;
-        is_run = is.holds.is_run;
-        count = subst (λ (files : Contents). IsCountOf words program files packets) (step_keeps step before mid program (loads some_texts some_labels) t)
-            (counts (step_tells step before mid program (loads some_texts some_labels) t) e);
-      }
-  replay_counted mid program (Err status) loads held counts = λ t. tt
+-- of the source, whose files say the same after it was fetched
+pub replay_counted : (words : ReplayWords) (before mid : FilesView) (packets : Option ℕ) (program form chosen : NormalForm) (asked : Asked) (result : Result Answer Status) → LoadsProgram words.source before mid (Ok program)
+    → (IsTrue before.told → HoldsProgram words.source before.contents program) → form ≡ program → (IsTrue mid.told → HoldAsked words form.hosts mid.contents asked) → chosen ≡ program → CountsOf chosen asked packets result
+    → CountsReplay words before packets result
+replay_counted words before mid packets program form chosen asked (Ok answer) loads held same held_asked is_chosen counts = λ t e.
+    let step = program_then some_texts some_labels words.source in
+    let is = held t in
+    record {
+      source = is.holds.source;
+      is_source = record { bytes = is.bytes; is_fetched = is.is_fetched; holds = is.holds.read };
+      program = program;
+      is_run = is.holds.is_run;
+      count = record {
+        asked = asked;
+        held =
+            subst (λ (files : Contents). HoldAsked words program.hosts files asked) (step_keeps step before mid program (loads some_texts some_labels) t)
+            (subst (λ (f : NormalForm). HoldAsked words f.hosts mid.contents asked) same (held_asked (step_tells step before mid program (loads some_texts some_labels) t)));
+        count = subst (λ (p : NormalForm). IsCount p asked packets) is_chosen (counts e);
+      };
+    }
+replay_counted words before mid packets program form chosen asked (Err status) loads held same held_asked is_chosen counts = λ t. tt

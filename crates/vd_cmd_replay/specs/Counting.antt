@@ -47,8 +47,5 @@ pub record IsReplayCount (words : ReplayWords) (contents : Contents) (packets : 
 abbrev pub CountsOf : NormalForm → Asked → Option ℕ → Result Answer Status → Type 0
 CountsOf program asked packets result = IfOk result (λ answer. answer.status ≡ Ended → IsCount program asked packets)
 
-abbrev pub CountsProgram : ReplayWords → NormalForm → FilesView → Option ℕ → Result Answer Status → Type 0
-CountsProgram words program before packets result = Finds before result (λ contents answer. answer.status ≡ Ended → IsCountOf words program contents packets)
-
 abbrev pub CountsReplay : ReplayWords → FilesView → Option ℕ → Result Answer Status → Type 0
 CountsReplay words before packets result = Finds before result (λ contents answer. answer.status ≡ Ended → IsReplayCount words contents packets)

@@ -19,7 +19,7 @@ use Rattle.vd_cmd_plan.specs.declared.status.Status.{Status}
 use Rattle.vd_cmd_labels.specs.Outcomes.{TextOutcomes, LabelOutcomes}
 use Rattle.vd_cmd_choice.specs.Programs.{program_then}
 use Rattle.vd_cmd_choice.specs.Searching.{Search, SomeSearch}
-use Rattle.vd_cmd_choice.specs.Choice.{choice_of_then, no_list}
+use Rattle.vd_cmd_choice.specs.Choice.{Chosen, choice_of_then, no_list}
 use Rattle.vd_cmd_files.specs.Outcomes.{ReplayOutcomes}
 use Rattle.vd_cmd_files.specs.declared.asked.Asked.{Asked}
 use Rattle.vd_cmd_files.specs.Asking.{asked_then}
@@ -64,18 +64,10 @@ replay_plan texts outcomes least choices search words =
 
 -- ---- what the parts of the command do, whatever functions pick outcomes
 
-abbrev pub ExecutesChoice : NormalForm → Asked → Assignment → Result Answer Status → Type 0
-ExecutesChoice program asked a result = (outcomes : ReplayOutcomes) (files : FilesView) → Executes true (assignment_plan outcomes asked program a) files files result
-
-abbrev pub ExecutesAsked : NormalForm → Asked → (budget : ℕ) → Result Answer Status → Type 0
-ExecutesAsked program asked budget result =
-    SomeSearch (λ choices search. (outcomes : ReplayOutcomes) (least : LabelOutcomes) (files : FilesView)
-    → Executes true (asked_plan outcomes least choices search budget program asked) files files result)
-
-abbrev pub ExecutesProgram : ReplayWords → NormalForm → FilesView → FilesView → Result Answer Status → Type 0
-ExecutesProgram words program before now result =
-    SomeSearch (λ choices search. (texts : TextOutcomes) (outcomes : ReplayOutcomes) (least : LabelOutcomes)
-    → Executes true (program_plan texts outcomes least choices search words program) before now result)
+abbrev pub ExecutesChoice : Asked → Chosen → Result Answer Status → Type 0
+ExecutesChoice asked c result =
+    (outcomes : ReplayOutcomes) (files : FilesView)
+    → Executes true (choice_plan outcomes asked (labelled_form c.program c.labels) c.assignment) files files result
 
 abbrev pub ExecutesReplay : ReplayWords → FilesView → FilesView → Result Answer Status → Type 0
 ExecutesReplay words before now result =

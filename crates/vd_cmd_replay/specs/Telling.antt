@@ -16,7 +16,6 @@ use Rattle.vd_projection.specs.Programs.{joint_of}
 use Rattle.vd_world.specs.Loading.{AreCodesOf}
 use Rattle.vd_world.specs.Reports.{report_of}
 use Rattle.vd_world.specs.Schedules.{replayed}
-use Rattle.vd_base.specs.Words.{InputsAreWords}
 use Rattle.vd_world.specs.Supplies.{supply_of_files}
 use Rattle.vd_world.specs.Told.{TellsUnder}
 use Rattle.vd_cmd_plan.specs.Held.{Finds}
@@ -64,13 +63,6 @@ pub record IsReport (program : NormalForm) (outputs : List (List ℕ)) (asked : 
   pub told : IsReportOf program.hosts outputs asked joint printed
   pub code : IsCodeAtChoice program joint
 
--- The report of a program on what the files say that the words name.
-pub record IsReplay (words : ReplayWords) (program : NormalForm) (outputs : List (List ℕ) → List (List ℕ)) (contents : Contents) (printed : List ℕ) : Type 0 where
-  pub asked : Asked
-  pub held : HoldAsked words program.hosts contents asked
-  pub are_words : InputsAreWords asked.inputs
-  pub report : IsReport program (outputs asked.inputs) asked printed
-
 -- ---- the headline
 
 -- What the files hold that the words name: the first is the text of a source that meets every rule, and the others give inputs,
@@ -96,10 +88,6 @@ pub record IsHeadline (words : ReplayWords) (contents : Contents) (printed : Lis
 
 abbrev pub TellsOf : NormalForm → Asked → Result Answer Status → Type 0
 TellsOf program asked result = IfOk result (λ answer. answer.status ≡ Ended → IsReport program (program_outputs program asked.inputs) asked answer.printed)
-
-abbrev pub TellsProgram : ReplayWords → NormalForm → FilesView → Result Answer Status → Type 0
-TellsProgram words program before result =
-    Finds before result (λ contents answer. answer.status ≡ Ended → IsReplay words program (program_outputs program) contents answer.printed)
 
 abbrev pub TellsHeadline : ReplayWords → FilesView → Result Answer Status → Type 0
 TellsHeadline words before result = Finds before result (λ contents answer. answer.status ≡ Ended → IsHeadline words contents answer.printed)

@@ -5,16 +5,16 @@ ghost use Rattle.vd_base.specs.Limits.{most_search_budget};
 ghost use Rattle.vd_tape.specs.Validity.{IsConsistent};
 ghost use Rattle.vd_semantics.specs.ProgramMeaning.{program_outputs};
 ghost use Rattle.vd_cmd_plan.specs.Plans.{Computes, ended};
-ghost use Rattle.vd_cmd_choice.specs.Choice.{IsSelected};
+ghost use Rattle.vd_cmd_choice.specs.Choice.{IsChoiceFor, IsSelected, chosen_of};
 ghost use Rattle.vd_cmd_files.specs.Asking.{AreAsked};
-ghost use Rattle.vd_cmd_replay.specs.Counting.{CountsOf, CountsProgram, CountsReplay, packets_for};
-ghost use Rattle.vd_cmd_replay.specs.Replaying.{ExecutesAsked, ExecutesChoice, ExecutesProgram, ExecutesReplay, report_for};
-ghost use Rattle.vd_cmd_replay.specs.Telling.{IsReport, TellsHeadline, TellsOf, TellsProgram};
+ghost use Rattle.vd_cmd_replay.specs.Counting.{CountsOf, CountsReplay, packets_for};
+ghost use Rattle.vd_cmd_replay.specs.Replaying.{ExecutesChoice, ExecutesReplay, report_for};
+ghost use Rattle.vd_cmd_replay.specs.Telling.{IsReport, TellsHeadline, TellsOf};
 
 use std::alloc::Global;
 use vd_base::{Bytes, Items};
 use vd_cmd::ReplayWords;
-use vd_cmd_choice::{choice_of, load_program, no_assignment};
+use vd_cmd_choice::{Choice, choice_of, load_program, no_assignment};
 use vd_cmd_files::{Asked, expect_consistent, load_asked};
 use vd_cmd_plan::{Answer, Status};
 use vd_core::Program;
@@ -81,60 +81,26 @@ pub fn replay_at(
     replay_counted(alloc, program, assignment, asked, &mut packets)
 }
 
-/// What `replay` does with the choice for a program.
+/// What `replay` does with the choice for a program, and all that it is to run on.
 fn replay_choice(
     alloc: Global,
-    program: &Program,
-    assignment: &Assignment,
+    choice: Choice,
     asked: Asked,
     packets: &mut Option<u64>,
 ) -> Result<Answer, Status>
-    requires selected { IsSelected program.now assignment.now }
-    requires asked { AreAsked (length program.now.hosts) asked }
-    ensures executes { ExecutesChoice program.now asked assignment.now result }
-    ensures tells { TellsOf program.now asked result }
-    ensures counts { CountsOf program.now asked packets.new result }
+    requires found { IsChoiceFor choice.program choice }
+    requires asked { AreAsked (length choice.program.hosts) asked }
+    ensures executes { ExecutesChoice asked (chosen_of choice) result }
+    ensures tells { TellsOf choice.program asked result }
+    ensures counts { CountsOf choice.program asked packets.new result }
 {
-    expect_consistent(&asked.deals)?;
-    replay_counted(alloc, program, assignment, asked, packets)
-}
-
-/// What `replay` does with a program, and all that it is to run on.
-fn replay_asked(
-    alloc: Global,
-    program: Program,
-    asked: Asked,
-    budget: u32,
-    packets: &mut Option<u64>,
-) -> Result<Answer, Status>
-    requires budget { budget ≤ most_search_budget }
-    requires asked { AreAsked (length program.hosts) asked }
-    ensures executes { ExecutesAsked program asked budget result }
-    ensures tells { TellsOf program asked result }
-    ensures counts { CountsOf program asked packets.new result }
-{
-    let choice = choice_of(alloc, program, budget)?;
     match &choice.assignment {
-        Some(assignment) => replay_choice(alloc, &choice.program, assignment, asked, packets),
+        Some(assignment) => {
+            expect_consistent(&asked.deals)?;
+            replay_counted(alloc, &choice.program, assignment, asked, packets)
+        }
         None => Ok(no_assignment(alloc, choice.program, choice.labels)),
     }
-}
-
-/// What `replay` does with a program.
-fn replay_program<F: Files>(
-    alloc: Global,
-    files: &mut F,
-    words: &ReplayWords,
-    program: Program,
-    packets: &mut Option<u64>,
-) -> Result<Answer, Status>
-    requires { words.now.budget ≤ most_search_budget }
-    ensures executes { ExecutesProgram words.now program (F.view files.old) (F.view files.new) result }
-    ensures tells { TellsProgram words.now program (F.view files.old) result }
-    ensures counts { CountsProgram words.now program (F.view files.old) packets.new result }
-{
-    let asked = load_asked(alloc, files, words, &program.form().hosts)?;
-    replay_asked(alloc, program, asked, words.budget, packets)
 }
 
 /// The command `replay`: all hosts of a source run over a schedule, and how each stands then. Where they ran, it is kept how many
@@ -151,5 +117,7 @@ pub fn replay<F: Files>(
     ensures counts { CountsReplay words.now (F.view files.old) packets.new result }
 {
     let program = load_program(alloc, files, words.source.as_str())?;
-    replay_program(alloc, files, words, program, packets)
+    let asked = load_asked(alloc, files, words, &program.form().hosts)?;
+    let choice = choice_of(alloc, program, words.budget)?;
+    replay_choice(alloc, choice, asked, packets)
 }

@@ -1,24 +1,45 @@
 use Rattle.std.proofs.lemmas.Result.{err_from_is_err_and}
-use Rattle.vd_cmd_replay.proofs.Counting.{choice_counted}
+use Rattle.vd_cmd_choice.specs.Choice.{IsSelected}
+use Rattle.vd_cmd_choice.proofs.Front.{which_is}
+use Rattle.vd_cmd_plan.specs.Labelled.{labelled_form}
+use Rattle.vd_cmd_replay.proofs.Counting.{choice_counted, none_counted}
 use Rattle.vd_cmd_replay.proofs.Playable.{dealt, told_then}
-use Rattle.vd_cmd_replay.proofs.Replayed.{choice_answered, choice_refused}
+use Rattle.vd_cmd_replay.proofs.Replayed.{none_told, none_valid, not_consistent, reported}
 use Rattle.vd_cmd_replay.proofs.replay_command.replay_choice.Goals as goal
 
 pub expect_consistent-requires : goal.expect_consistent-requires
 expect_consistent-requires c = dealt _ c.args.asked c.requires.asked
 
-pub returns-in_err-expect_consistent-clause-executes : goal.returns-in_err-expect_consistent-clause-executes
-returns-in_err-expect_consistent-clause-executes c = λ outcomes files.
+pub replay_counted-requires-clause-selected : goal.replay_counted-requires-clause-selected
+replay_counted-requires-clause-selected c = which_is (IsSelected c.args.choice.program) c.args.choice.assignment c.in-Some.assignment c.in-Some.is c.requires.found.selected
+
+pub no_assignment-requires : goal.no_assignment-requires
+no_assignment-requires c = c.requires.found.least
+
+pub returns-in_err-expect_consistent-in-Some-clause-executes : goal.returns-in_err-expect_consistent-in-Some-clause-executes
+returns-in_err-expect_consistent-in-Some-clause-executes c =
     let p = err_from_is_err_and c.from_residual.result c.from_residual.ensures.1 in
     rw (p.1, p.2)
-    (choice_refused c.args.program.now c.args.asked c.args.assignment.now c.in_err-expect_consistent.field-0.0 (c.in_err-expect_consistent.ensures {u = tt}).checks outcomes files)
+    (not_consistent c.args.choice c.args.asked c.in-Some.assignment c.in_err-expect_consistent-in-Some.field-0.0 c.in-Some.is (c.in_err-expect_consistent-in-Some.ensures {u = tt}).checks)
 
-pub returns-clause-executes : goal.returns-clause-executes
-returns-clause-executes c = choice_answered c.args.program.now c.args.asked c.args.assignment.now _ (c.in_ok-expect_consistent.ensures {u = tt}).checks c.replay_counted.ensures.computes
+pub returns-in-Some-clause-executes : goal.returns-in-Some-clause-executes
+returns-in-Some-clause-executes c =
+    reported c.args.choice c.args.asked c.in-Some.assignment c.replay_counted.result c.in-Some.is (c.in_ok-expect_consistent-in-Some.ensures {u = tt}).checks c.replay_counted.ensures.computes
 
-pub returns-clause-tells : goal.returns-clause-tells
-returns-clause-tells c = told_then c.args.program.now c.args.asked c.replay_counted.result c.replay_counted.ensures.tells
+pub returns-in-Some-clause-tells : goal.returns-in-Some-clause-tells
+returns-in-Some-clause-tells c = told_then c.args.choice.program c.args.asked c.replay_counted.result c.replay_counted.ensures.tells
 
-pub returns-clause-counts : goal.returns-clause-counts
-returns-clause-counts c =
-    choice_counted c.args.program.now c.args.assignment.now c.args.asked c.replay_counted.new.packets c.replay_counted.result c.requires.selected c.replay_counted.ensures.counts
+pub returns-in-Some-clause-counts : goal.returns-in-Some-clause-counts
+returns-in-Some-clause-counts c =
+    choice_counted c.args.choice.program c.in-Some.assignment c.args.asked c.replay_counted.new.packets c.replay_counted.result
+    (which_is (IsSelected c.args.choice.program) c.args.choice.assignment c.in-Some.assignment c.in-Some.is c.requires.found.selected) c.replay_counted.ensures.counts
+
+pub returns-in-None-clause-executes : goal.returns-in-None-clause-executes
+returns-in-None-clause-executes c = none_valid c.args.choice c.args.asked c.no_assignment.result c.in-None.is c.no_assignment.ensures
+
+pub returns-in-None-clause-tells : goal.returns-in-None-clause-tells
+returns-in-None-clause-tells c = none_told c.args.choice.program c.args.asked (labelled_form c.args.choice.program c.args.choice.labels) c.no_assignment.result c.no_assignment.ensures
+
+pub returns-in-None-clause-counts : goal.returns-in-None-clause-counts
+returns-in-None-clause-counts c =
+    none_counted c.args.choice.program c.args.asked c.args.packets.now (labelled_form c.args.choice.program c.args.choice.labels) c.no_assignment.result c.no_assignment.ensures
