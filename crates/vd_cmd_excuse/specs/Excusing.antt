@@ -22,7 +22,7 @@ use Rattle.vd_cmd_labels.specs.Outcomes.{TextOutcomes, LabelOutcomes}
 use Rattle.vd_cmd_choice.specs.Programs.{program_then}
 use Rattle.vd_cmd_depends.specs.Depending.{as_host}
 use Rattle.vd_cmd_choice.specs.Searching.{Search, SomeSearch}
-use Rattle.vd_cmd_choice.specs.Choice.{choice_of_then, no_list}
+use Rattle.vd_cmd_choice.specs.Choice.{Chosen, choice_of_then, no_list}
 use Rattle.vd_cmd_files.specs.Outcomes.{ReplayOutcomes}
 use Rattle.vd_cmd_files.specs.Deals.{as_consistent}
 use Rattle.vd_views.specs.Explained.{plan_of}
@@ -106,27 +106,18 @@ excuse_plan texts outcomes least choices search words = program_then texts least
 
 -- ---- what the parts of the command do, whatever functions pick outcomes
 
-abbrev pub ExecutesExcused : NormalForm → Labels → HostId → Runs → (out : List ℕ) → List Proto → Result Answer Status → Type 0
-ExecutesExcused p l h runs out protocols result = (files : FilesView) → Executes true (excused_plan p l h runs out protocols) files files result
-
-abbrev pub ExecutesChoice : NormalForm → Labels → HostId → Runs → (out : List ℕ) → Assignment → Result Answer Status → Type 0
-ExecutesChoice p l h runs out a result =
+abbrev pub ExecutesAt : NormalForm → Labels → HostId → Runs → (out : List ℕ) → Assignment → Result Answer Status → Type 0
+ExecutesAt p l h runs out a result =
     (outcomes : ReplayOutcomes) (files : FilesView) → Executes true (assignment_plan outcomes p l h runs out a) files files result
 
-abbrev pub ExecutesHost : ExcuseWords → NormalForm → HostId → Runs → Result Answer Status → Type 0
-ExecutesHost words p h runs result =
-    SomeSearch (λ choices search. (outcomes : ReplayOutcomes) (least : LabelOutcomes) (files : FilesView)
-    → Executes true (host_plan outcomes least choices search words p h runs) files files result)
+abbrev pub ExecutesChoice : HostId → Runs → (out : List ℕ) → Chosen → Result Answer Status → Type 0
+ExecutesChoice h runs out c result =
+    (outcomes : ReplayOutcomes) (files : FilesView) → Executes true (choice_plan outcomes h runs out c.program c.labels c.assignment) files files result
 
 abbrev pub ExecutesRuns : ExcuseWords → NormalForm → Runs → Result Answer Status → Type 0
 ExecutesRuns words p runs result =
     SomeSearch (λ choices search. (outcomes : ReplayOutcomes) (least : LabelOutcomes) (files : FilesView)
     → Executes true (runs_plan outcomes least choices search words p runs) files files result)
-
-abbrev pub ExecutesProgram : ExcuseWords → NormalForm → FilesView → FilesView → Result Answer Status → Type 0
-ExecutesProgram words p before now result =
-    SomeSearch (λ choices search. (texts : TextOutcomes) (outcomes : ReplayOutcomes) (least : LabelOutcomes)
-    → Executes true (program_plan texts outcomes least choices search words p) before now result)
 
 abbrev pub ExecutesExcuse : ExcuseWords → FilesView → FilesView → Result Answer Status → Type 0
 ExecutesExcuse words before now result =

@@ -4,7 +4,6 @@ use Rattle.vd_base.specs.Limits.{most_hosts}
 use Rattle.vd_outside.specs.Files.{FilesView, Contents}
 use Rattle.vd_cmd.specs.declared.command.ExcuseWords.{ExcuseWords}
 use Rattle.vd_core.specs.declared.normal.NormalForm.{NormalForm}
-use Rattle.vd_tape.specs.Validity.{IsConsistent}
 use Rattle.vd_tape.specs.declared.deal_items.deal.Deal.{Deal}
 use Rattle.vd_tape.specs.Text.{AreDealsOf}
 use Rattle.vd_cmd_plan.specs.Plans.{Plan, ExecutesStep}
@@ -25,11 +24,6 @@ pub record AreRead (hosts : ℕ) (runs : Runs) : Type 0 where
   pub second_words : InputsAreWords runs.second
   pub all : length runs.deals ≡ hosts
   pub deals : AreDealsOf hosts runs.deals
-
--- such runs, with deals that fit each other
-pub record AreConsistent (hosts : ℕ) (runs : Runs) : Type 0 where
-  pub read : AreRead hosts runs
-  pub deals : IsConsistent runs.deals
 
 -- one of the two hosts of a program
 pub record IsHostOfTwo (program : NormalForm) (host : ℕ) : Type 0 where

@@ -64,8 +64,5 @@ TellsOf name out p runs result = IfOk result (λ answer. answer.status ≡ Ended
 abbrev pub TellsAt : HostId → NormalForm → (out : List ℕ) → Runs → Result Answer Status → Type 0
 TellsAt h p out runs result = (name : List ℕ) → host_of p.hosts name ≡ Some h.0 → TellsOf name out p runs result
 
-abbrev pub TellsProgram : ExcuseWords → NormalForm → FilesView → Result Answer Status → Type 0
-TellsProgram words p before result = Finds before result (λ contents answer. answer.status ≡ Ended → IsExcuseIn words p contents answer.stores answer.printed)
-
 abbrev pub TellsExcuse : ExcuseWords → FilesView → Result Answer Status → Type 0
 TellsExcuse words before result = Finds before result (λ contents answer. answer.status ≡ Ended → IsExcuseBy words contents answer.stores answer.printed)
