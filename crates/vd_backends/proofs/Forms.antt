@@ -10,7 +10,7 @@ use Rattle.vd_duet.specs.Calls.{Places, Made, called, hosts_of}
 use Rattle.vd_duet.specs.Laws.{AreKnown}
 use Rattle.vd_clear.specs.Copies.{each_made}
 use Rattle.vd_backends.specs.Formed.{is_named, AreFormed}
-use Rattle.vd_backends.proofs.BackendMovesForms.{named_formed, second_low, two_named}
+use Rattle.vd_backends.proofs.Named.{named_formed, second_low, two_named}
 
 -- each host takes so many registers, and gives the first
 module _ (k : ℕ) (f : HostId → List ℕ → Made Reg) (first : (h : HostId) (next : List ℕ) → (f h next).given ≡ next_at next h)

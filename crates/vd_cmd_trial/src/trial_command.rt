@@ -26,14 +26,15 @@ use vd_gen::generate;
 use vd_resolve::Resolved;
 use vd_search_stages::Assignment;
 
-/// The line of a cost.
-fn cost_line(alloc: Global, cost: u32) -> Result<Bytes, AllocError>
-    ensures { IfOk result (λ text. text ≡ cost_line cost) }
+/// The line of a cost, and a report behind it.
+fn report_with_cost(alloc: Global, cost: u32, report: &[u8]) -> Result<Bytes, AllocError>
+    ensures { IfOk result (λ text. text ≡ cost_line cost ++ report.now) }
 {
     let mut text = Bytes::new(alloc);
     text.extend_from_slice(b"cost ")?;
     text.extend_from_slice(Buffer::new().format(cost).as_bytes())?;
     text.extend_from_slice(b"\n")?;
+    text.extend_from_slice(report)?;
     Ok(text)
 }
 
@@ -41,13 +42,12 @@ fn cost_line(alloc: Global, cost: u32) -> Result<Bytes, AllocError>
 fn headed_by(alloc: Global, cost: u32, answer: Answer) -> Result<Answer, AllocError>
     ensures { IfOk result (λ headed. headed ≡ headed_by cost answer) }
 {
+    let printed = report_with_cost(alloc, cost, answer.printed.as_slice())?;
     let Answer {
         status,
         stores,
-        printed: report,
+        printed: _,
     } = answer;
-    let mut printed = cost_line(alloc, cost)?;
-    printed.extend_from_slice(report.as_slice())?;
     Ok(Answer {
         status,
         stores,

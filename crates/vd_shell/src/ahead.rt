@@ -146,10 +146,10 @@ fn files_of_words(alloc: Global, words: &Texts) -> Result<Items<Wanted>, Command
     ensures memory { IfErr result (λ fault. fault ≡ CommandFault.Memory) }
 {
     match read_words(alloc, words) {
-        Ok(command) => {
-            let files = files_of(alloc, &command)?;
-            Ok(files)
-        }
+        Ok(command) => match files_of(alloc, &command) {
+            Ok(files) => Ok(files),
+            Err(_) => Err(CommandFault::Memory),
+        },
         Err(CommandFault::Usage) => Ok(Items::new(alloc)),
         Err(CommandFault::Memory) => Err(CommandFault::Memory),
     }

@@ -4,7 +4,7 @@ use Rattle.vd_base.specs.Holders.{holders}
 use Rattle.vd_clear.specs.Copies.{each_made}
 use Rattle.vd_backend_laws.specs.Parts.{zeros_at}
 use Rattle.vd_backends.specs.Formed.{AreFormed}
-use Rattle.vd_backends.proofs.BackendMovesForms.{if_both}
+use Rattle.vd_backends.proofs.Named.{if_both}
 use Rattle.vd_backends.proofs.Forms.{each_formed}
 use Rattle.vd_backends.proofs.arrays.cells.Goals as goal
 

@@ -7,7 +7,7 @@ use Rattle.vd_duet.specs.Calls.{called, hosts_of, in_clear, register_of}
 use Rattle.vd_clear.specs.Copies.{each_made, written_by}
 use Rattle.vd_backend_laws.specs.Parts.{index_of}
 use Rattle.vd_backends.specs.Formed.{AreFormed}
-use Rattle.vd_backends.proofs.BackendMovesForms.{if_both}
+use Rattle.vd_backends.proofs.Named.{if_both}
 use Rattle.vd_backends.proofs.Forms.{each_formed}
 use Rattle.vd_backends.proofs.arrays.get.Goals as goal
 
