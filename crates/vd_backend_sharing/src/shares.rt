@@ -1,7 +1,12 @@
-ghost use Rattle.std.specs.Prelude.{◌≡◌};
+ghost use Rattle.std.specs.Prelude.{◌≡◌, IfOk};
+ghost use Rattle.vd_duet.specs.Calls.{in_clear};
 ghost use Rattle.vd_execution.specs.Gadgets.{hide as hide_of};
 ghost use Rattle.vd_backend_sharing.specs.Sharings.{sharing_of, join as join_of, multiply as multiply_of};
+ghost use Rattle.vd_backend_sharing.specs.PairCalls.{places_at, shares_of};
 
+use std::alloc::{AllocError, Global};
+use vd_base::{HostId, Items};
+use vd_duet::{Clear, Parts};
 use vd_execution::{Binary, Reg};
 
 /// How the parts of two hosts make a word.
@@ -50,4 +55,37 @@ impl Sharing {
 pub struct PartRegisters {
     pub first: Reg,
     pub second: Reg,
+}
+
+impl PartRegisters {
+    /// Those of a word of two parts. A word that has fewer has register 0 for both.
+    pub fn of(x: &Parts<Clear>) -> PartRegisters
+        ensures { result ≡ shares_of (in_clear x.now) }
+    {
+        match x.as_slice() {
+            [first, second, ..] => PartRegisters {
+                first: first.1.0,
+                second: second.1.0,
+            },
+            _ => PartRegisters {
+                first: Reg(0),
+                second: Reg(0),
+            },
+        }
+    }
+
+    /// The word whose parts two hosts have in these registers.
+    pub fn at(
+        self,
+        first: HostId,
+        second: HostId,
+        alloc: Global,
+    ) -> Result<Parts<Clear>, AllocError>
+        ensures { IfOk result (λ y. in_clear y ≡ places_at first second self) }
+    {
+        Ok(Items::from_slice(
+            alloc,
+            &[(first, Clear(self.first)), (second, Clear(self.second))],
+        )?)
+    }
 }

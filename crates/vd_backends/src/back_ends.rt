@@ -10,7 +10,6 @@ ghost use Rattle.vd_backend_laws.specs.Parts.{back_end};
 ghost use Rattle.vd_backends.specs.Formed.{AreFormed};
 
 use crate::commitments::commit_to;
-use crate::pairs::{Bits, Sums};
 use std::alloc::AllocError;
 use vd_base::{HostId, Items, Op, Proto};
 use vd_circuit::CircuitPair;
@@ -30,8 +29,8 @@ pub(crate) fn literal(at: Proto, word: u32, to: &mut Duet) -> Result<Parts<Clear
     match at {
         Proto::Local(host) => LocalHost(host).literal(word, to),
         Proto::Rep(set) => Replica(set).literal(word, to),
-        Proto::Add(first, second) => Sums(AddPair(first, second)).literal(word, to),
-        Proto::Xor(first, second) => Bits(CircuitPair(first, second)).literal(word, to),
+        Proto::Add(first, second) => AddPair(first, second).literal(word, to),
+        Proto::Xor(first, second) => CircuitPair(first, second).literal(word, to),
         Proto::Commit(_, _) => Ok(Items::new(to.alloc())),
     }
 }
@@ -53,8 +52,8 @@ pub(crate) fn share(
     match at {
         Proto::Local(host) => LocalHost(host).share(from, x, to),
         Proto::Rep(set) => Replica(set).share(from, x, to),
-        Proto::Add(first, second) => Sums(AddPair(first, second)).share(from, x, to),
-        Proto::Xor(first, second) => Bits(CircuitPair(first, second)).share(from, x, to),
+        Proto::Add(first, second) => AddPair(first, second).share(from, x, to),
+        Proto::Xor(first, second) => CircuitPair(first, second).share(from, x, to),
         Proto::Commit(bound, keeper) => commit_to(bound, keeper, x, to),
     }
 }
@@ -71,8 +70,8 @@ pub(crate) fn keep(at: Proto, x: &Parts<Clear>, to: &mut Duet) -> Result<Parts<C
     match at {
         Proto::Local(host) => LocalHost(host).keep(x, to),
         Proto::Rep(set) => Replica(set).keep(x, to),
-        Proto::Add(first, second) => Sums(AddPair(first, second)).keep(x, to),
-        Proto::Xor(first, second) => Bits(CircuitPair(first, second)).keep(x, to),
+        Proto::Add(first, second) => AddPair(first, second).keep(x, to),
+        Proto::Xor(first, second) => CircuitPair(first, second).keep(x, to),
         Proto::Commit(_, _) => Ok(Items::new(to.alloc())),
     }
 }
@@ -91,8 +90,8 @@ pub(crate) fn renew(
     match at {
         Proto::Local(host) => LocalHost(host).renew(kept, x, to),
         Proto::Rep(set) => Replica(set).renew(kept, x, to),
-        Proto::Add(first, second) => Sums(AddPair(first, second)).renew(kept, x, to),
-        Proto::Xor(first, second) => Bits(CircuitPair(first, second)).renew(kept, x, to),
+        Proto::Add(first, second) => AddPair(first, second).renew(kept, x, to),
+        Proto::Xor(first, second) => CircuitPair(first, second).renew(kept, x, to),
         Proto::Commit(_, _) => Ok(()),
     }
 }
@@ -115,8 +114,8 @@ pub(crate) fn apply(
     match at {
         Proto::Local(host) => LocalHost(host).apply(op, args, to),
         Proto::Rep(set) => Replica(set).apply(op, args, to),
-        Proto::Add(first, second) => Sums(AddPair(first, second)).apply(op, args, to),
-        Proto::Xor(first, second) => Bits(CircuitPair(first, second)).apply(op, args, to),
+        Proto::Add(first, second) => AddPair(first, second).apply(op, args, to),
+        Proto::Xor(first, second) => CircuitPair(first, second).apply(op, args, to),
         Proto::Commit(_, _) => unreachable!(),
     }
 }

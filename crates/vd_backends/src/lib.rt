@@ -12,9 +12,7 @@ mod laws;
 mod loops;
 mod moves;
 mod operands;
-mod pairs;
 mod placement;
-mod shares;
 
 pub use all_protocols::AllProtocols;
 pub use laws::programs_can_be_split;

@@ -10,7 +10,6 @@ ghost use Rattle.vd_clear.specs.Copies.{clear_calls};
 ghost use Rattle.vd_backend_sharing.specs.PairCalls.{places_at, shares_of};
 ghost use Rattle.vd_words.specs.AddCalls.{add_calls};
 ghost use Rattle.vd_circuit.specs.CircuitCalls.{circuit_calls};
-ghost use Rattle.vd_convert.specs.Convert.{to_add_made, to_xor_made};
 ghost use Rattle.vd_backend_laws.specs.Commits.{commit_calls};
 ghost use Rattle.vd_backend_laws.specs.Moves.{copies_at as copies_of, only as only_of};
 ghost use Rattle.vd_backends.specs.Formed.{AreFormed, is_named};
@@ -18,8 +17,6 @@ ghost use Rattle.vd_backends.specs.Moving.{Brings, Opens, Shows};
 
 use crate::back_ends::share;
 use crate::commitments::{same_bound, show_both, show_bound};
-use crate::pairs::{Bits, Sums};
-use crate::shares::{bits, of_bits, of_sums, sums};
 use std::alloc::{AllocError, Global};
 use vd_backend_sharing::PartRegisters;
 use vd_base::{HostId, HostSet, Items, Proto};
@@ -78,8 +75,8 @@ fn bring_copies(
     match onto {
         Proto::Local(host) => show(set, x, host, to),
         Proto::Rep(other) => spread(x, set, other, to),
-        Proto::Add(first, second) => Sums(AddPair(first, second)).adopt(x, to),
-        Proto::Xor(first, second) => Bits(CircuitPair(first, second)).adopt(x, to),
+        Proto::Add(first, second) => AddPair(first, second).adopt(x, to),
+        Proto::Xor(first, second) => CircuitPair(first, second).adopt(x, to),
         Proto::Commit(_, _) => Ok(Items::new(to.alloc())),
     }
 }
@@ -96,22 +93,6 @@ fn copies_at(hosts: &[HostId], x: &Parts<Clear>, alloc: Global) -> Result<Parts<
     Ok(copies)
 }
 
-/// The registers of the first two parts.
-fn shares(x: &Parts<Clear>) -> PartRegisters
-    ensures { result ≡ shares_of (in_clear x.now) }
-{
-    match x.as_slice() {
-        [first, second, ..] => PartRegisters {
-            first: first.1.0,
-            second: second.1.0,
-        },
-        _ => PartRegisters {
-            first: Reg(0),
-            second: Reg(0),
-        },
-    }
-}
-
 /// The registers of two parts, as those of these hosts.
 fn same(
     first: HostId,
@@ -121,11 +102,7 @@ fn same(
 ) -> Result<Parts<Clear>, AllocError>
     ensures { IfOk result (λ y. in_clear y ≡ places_at first second (shares_of (in_clear x.now))) }
 {
-    let parts = shares(x);
-    Ok(Items::from_slice(
-        alloc,
-        &[(first, Clear(parts.first)), (second, Clear(parts.second))],
-    )?)
+    PartRegisters::of(x).at(first, second, alloc)
 }
 
 /// The move of a word from sums of two hosts to one host.
@@ -143,7 +120,7 @@ fn show_sums(
     ensures hosts { IfOk result (λ y. hosts_of (in_clear y) ≡ holders (proto.Local at)) }
     ensures few { OnOk result (TakesFew to.old.next to.new.next) }
 {
-    let shown = Sums(pair).show(x, at, to)?;
+    let shown = pair.show(x, at, to)?;
     Ok(Items::from_slice(to.alloc(), &[(at, shown)])?)
 }
 
@@ -161,7 +138,7 @@ fn open_sums(
     ensures hosts { IfOk result (λ y. hosts_of (in_clear y) ≡ holders (proto.Rep set)) }
     ensures few { OnOk result (TakesFew to.old.next to.new.next) }
 {
-    let all = Sums(pair).show_all(x, to)?;
+    let all = pair.show_all(x, to)?;
     let hosts = set.members(to.alloc())?;
     copies_at(hosts.as_slice(), &all, to.alloc())
 }
@@ -181,7 +158,7 @@ fn show_bits(
     ensures hosts { IfOk result (λ y. hosts_of (in_clear y) ≡ holders (proto.Local at)) }
     ensures few { OnOk result (TakesFew to.old.next to.new.next) }
 {
-    let shown = Bits(pair).show(x, at, to)?;
+    let shown = pair.show(x, at, to)?;
     Ok(Items::from_slice(to.alloc(), &[(at, shown)])?)
 }
 
@@ -199,45 +176,9 @@ fn open_bits(
     ensures hosts { IfOk result (λ y. hosts_of (in_clear y) ≡ holders (proto.Rep set)) }
     ensures few { OnOk result (TakesFew to.old.next to.new.next) }
 {
-    let all = Bits(pair).show_all(x, to)?;
+    let all = pair.show_all(x, to)?;
     let hosts = set.members(to.alloc())?;
     copies_at(hosts.as_slice(), &all, to.alloc())
-}
-
-/// The move of a word from sums to exclusive ors of two hosts.
-fn sums_to_bits(
-    first: HostId,
-    second: HostId,
-    x: &Parts<Clear>,
-    to: &mut Duet,
-) -> Result<Parts<Clear>, AllocError>
-    requires known { AreKnown (first ∷ second ∷ []) to.old.next }
-    requires room { HasRoom 0 to.old.next }
-    ensures exact { IfOk result (λ y. Makes (to_xor_made first second (in_clear x.now)) to.old (in_clear y) to.new) }
-    ensures hosts { IfOk result (λ y. hosts_of (in_clear y) ≡ first ∷ second ∷ []) }
-    ensures few { OnOk result (TakesFew to.old.next to.new.next) }
-{
-    let parts = sums(x, to.alloc())?;
-    let y = to_xor(&AddPair(first, second), &parts, to)?;
-    of_bits(&y, to.alloc())
-}
-
-/// The move of a word from exclusive ors to sums of two hosts.
-fn bits_to_sums(
-    first: HostId,
-    second: HostId,
-    x: &Parts<Clear>,
-    to: &mut Duet,
-) -> Result<Parts<Clear>, AllocError>
-    requires known { AreKnown (first ∷ second ∷ []) to.old.next }
-    requires room { HasRoom 0 to.old.next }
-    ensures exact { IfOk result (λ y. Makes (to_add_made first second (in_clear x.now)) to.old (in_clear y) to.new) }
-    ensures hosts { IfOk result (λ y. hosts_of (in_clear y) ≡ first ∷ second ∷ []) }
-    ensures few { OnOk result (TakesFew to.old.next to.new.next) }
-{
-    let parts = bits(x, to.alloc())?;
-    let y = to_add(&XorPair(first, second), &parts, to)?;
-    of_sums(&y, to.alloc())
 }
 
 /// The move of a word from sums of two hosts to another protocol.
@@ -261,7 +202,7 @@ fn bring_sums(
         Proto::Local(host) => show_sums(pair, x, host, to),
         Proto::Rep(set) => open_sums(pair, set, x, to),
         Proto::Add(one, other) => same(one, other, x, to.alloc()),
-        Proto::Xor(one, other) => sums_to_bits(one, other, x, to),
+        Proto::Xor(one, other) => to_xor(&AddPair(one, other), x, to),
         Proto::Commit(_, _) => Ok(Items::new(to.alloc())),
     }
 }
@@ -286,7 +227,7 @@ fn bring_bits(
     match onto {
         Proto::Local(host) => show_bits(pair, x, host, to),
         Proto::Rep(set) => open_bits(pair, set, x, to),
-        Proto::Add(one, other) => bits_to_sums(one, other, x, to),
+        Proto::Add(one, other) => to_add(&XorPair(one, other), x, to),
         Proto::Xor(one, other) => same(one, other, x, to.alloc()),
         Proto::Commit(_, _) => Ok(Items::new(to.alloc())),
     }
@@ -332,8 +273,8 @@ fn bring_bound(
         Proto::Local(host) => show_bound(bound, keeper, x, host, to),
         Proto::Rep(set) => open_bound(bound, keeper, set, x, to),
         Proto::Commit(one, other) => same_bound(one, other, x, to.alloc()),
-        Proto::Add(first, second) => Sums(AddPair(first, second)).adopt(x, to),
-        Proto::Xor(first, second) => Bits(CircuitPair(first, second)).adopt(x, to),
+        Proto::Add(first, second) => AddPair(first, second).adopt(x, to),
+        Proto::Xor(first, second) => CircuitPair(first, second).adopt(x, to),
     }
 }
 

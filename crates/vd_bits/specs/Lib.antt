@@ -1,4 +1,3 @@
 pub mod BitCalls
-pub mod BitParts
 pub mod Law
 pub mod Example

@@ -10,4 +10,4 @@ mod xor_pair;
 pub use circuits::{adding, bit_gates, carrying, subtracting};
 pub use gates::Gate;
 pub use laws::{shared_bits_are_a_back_end, worked_bits};
-pub use xor_pair::{XorPair, XorShare};
+pub use xor_pair::XorPair;

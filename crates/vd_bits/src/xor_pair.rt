@@ -1,12 +1,11 @@
 ghost use Rattle.std.specs.Prelude.{◌≡◌, ◌≤◌, ◌∷◌, [], IfOk, OnOk, length, map};
 ghost use Rattle.vd_base.specs.declared.operations.Op.TheVariants as op;
 ghost use Rattle.vd_duet.specs.Builder.{TakesAtMost};
-ghost use Rattle.vd_duet.specs.Calls.{Makes, in_clear, hosts_of};
+ghost use Rattle.vd_duet.specs.Calls.{Makes, all_placed, hosts_of, in_clear};
 ghost use Rattle.vd_duet.specs.Laws.{AreKnown};
-ghost use Rattle.vd_backend_sharing.specs.PairCalls.{AreLow, shares_of, places_at};
+ghost use Rattle.vd_backend_sharing.specs.PairCalls.{AreLow, shares_of};
 ghost use Rattle.vd_backend_sharing.specs.declared.shares.Sharing.TheVariants as way;
 ghost use Rattle.vd_bits.specs.BitCalls.{HasCircuitRoom, gate_of, gates_in, gate_shares, gates_shares, circuit_made, computed, bit_calls};
-ghost use Rattle.vd_bits.specs.BitParts.{parts_of, all_parts_of};
 
 use crate::circuits::{bit_circuit, difference_circuit, sum_circuit};
 use crate::gates::Gate;
@@ -16,10 +15,6 @@ use vd_backend_sharing::{Pair, PartRegisters, Sharing};
 use vd_base::{HostId, Items, Op, Proto};
 use vd_duet::{Args, Backend, Clear, Duet, Parts};
 use vd_execution::{Binary, Reg};
-
-/// A host's part of an exclusive or.
-#[derive(Clone, Copy, PartialEq, Eq)]
-pub struct XorShare(pub Reg);
 
 /// Two hosts that share words: a word is the exclusive or of their parts.
 #[derive(Clone, Copy, PartialEq, Eq)]
@@ -36,26 +31,13 @@ impl XorPair {
         }
     }
 
-    fn parts(&self, x: PartRegisters, alloc: Global) -> Result<Parts<XorShare>, AllocError>
-        ensures { IfOk result (λ y. parts_of y ≡ places_at self.now.0 self.now.1 x) }
-    {
-        Ok(Items::from_slice(
-            alloc,
-            &[(self.0, XorShare(x.first)), (self.1, XorShare(x.second))],
-        )?)
-    }
-
-    fn copies(&self, x: PartRegisters, alloc: Global) -> Result<Parts<Clear>, AllocError>
-        ensures { IfOk result (λ y. in_clear y ≡ places_at self.now.0 self.now.1 x) }
-    {
-        Ok(Items::from_slice(
-            alloc,
-            &[(self.0, Clear(x.first)), (self.1, Clear(x.second))],
-        )?)
-    }
-
     /// What a gate makes of the words that are there.
-    fn emit(&self, gate: Gate, words: &[PartRegisters], to: &mut Duet) -> Result<PartRegisters, AllocError>
+    fn emit(
+        &self,
+        gate: Gate,
+        words: &[PartRegisters],
+        to: &mut Duet,
+    ) -> Result<PartRegisters, AllocError>
         requires known { AreKnown (self.now.0 ∷ self.now.1 ∷ []) to.old.next }
         requires room { AreLow to.old.next }
         ensures exact { IfOk result (λ x. Makes (gate_shares self.now.0 self.now.1 (gate_of gate) words.now) to.old x to.new) }
@@ -75,7 +57,12 @@ impl XorPair {
     }
 
     /// What the last of some gates makes, of words that are there before the first.
-    fn run(&self, gates: &[Gate], words: Items<PartRegisters>, to: &mut Duet) -> Result<PartRegisters, AllocError>
+    fn run(
+        &self,
+        gates: &[Gate],
+        words: Items<PartRegisters>,
+        to: &mut Duet,
+    ) -> Result<PartRegisters, AllocError>
         requires known { AreKnown (self.now.0 ∷ self.now.1 ∷ []) to.old.next }
         requires room { HasCircuitRoom to.old.next }
         requires short { length gates.now ≤ 31 }
@@ -95,55 +82,55 @@ impl XorPair {
     pub fn circuit(
         &self,
         gates: &[Gate],
-        args: &Args<XorShare>,
+        args: &Args<Clear>,
         to: &mut Duet,
-    ) -> Result<Parts<XorShare>, AllocError>
+    ) -> Result<Parts<Clear>, AllocError>
         requires known { AreKnown (self.now.0 ∷ self.now.1 ∷ []) to.old.next }
         requires room { HasCircuitRoom to.old.next }
         requires short { length gates.now ≤ 31 }
-        ensures exact { IfOk result (λ x. Makes (circuit_made self.now.0 self.now.1 (gates_in gates.now) (all_parts_of args.now)) to.old
-            (parts_of x) to.new) }
-        ensures hosts { IfOk result (λ x. hosts_of (parts_of x) ≡ self.now.0 ∷ self.now.1 ∷ []) }
+        ensures exact { IfOk result (λ x. Makes (circuit_made self.now.0 self.now.1 (gates_in gates.now) (all_placed (λ c. c.0) args.now)) to.old
+            (in_clear x) to.new) }
+        ensures hosts { IfOk result (λ x. hosts_of (in_clear x) ≡ self.now.0 ∷ self.now.1 ∷ []) }
         ensures few { OnOk result (TakesAtMost 1024 to.old.next to.new.next) }
     {
         let words = words_of(args, to.alloc())?;
         let made = self.run(gates, words, to)?;
-        self.parts(made, to.alloc())
+        made.at(self.0, self.1, to.alloc())
     }
 
     /// What the last of some gates makes, of two operands.
     fn of_two(
         &self,
         gates: &[Gate],
-        x: &Parts<XorShare>,
-        y: &Parts<XorShare>,
+        x: &Parts<Clear>,
+        y: &Parts<Clear>,
         to: &mut Duet,
-    ) -> Result<Parts<XorShare>, AllocError>
+    ) -> Result<Parts<Clear>, AllocError>
         requires known { AreKnown (self.now.0 ∷ self.now.1 ∷ []) to.old.next }
         requires room { HasCircuitRoom to.old.next }
         requires short { length gates.now ≤ 31 }
         ensures exact { IfOk result (λ z. Makes (circuit_made self.now.0 self.now.1 (gates_in gates.now)
-            (parts_of x.now ∷ parts_of y.now ∷ [])) to.old (parts_of z) to.new) }
-        ensures hosts { IfOk result (λ z. hosts_of (parts_of z) ≡ self.now.0 ∷ self.now.1 ∷ []) }
+            (in_clear x.now ∷ in_clear y.now ∷ [])) to.old (in_clear z) to.new) }
+        ensures hosts { IfOk result (λ z. hosts_of (in_clear z) ≡ self.now.0 ∷ self.now.1 ∷ []) }
         ensures few { OnOk result (TakesAtMost 1024 to.old.next to.new.next) }
     {
-        let words = Items::from_slice(to.alloc(), &[shares(x), shares(y)])?;
+        let words = Items::from_slice(to.alloc(), &[PartRegisters::of(x), PartRegisters::of(y)])?;
         let made = self.run(gates, words, to)?;
-        self.parts(made, to.alloc())
+        made.at(self.0, self.1, to.alloc())
     }
 
     /// The sum, modulo 2^32, of two words.
     pub fn add(
         &self,
-        x: &Parts<XorShare>,
-        y: &Parts<XorShare>,
+        x: &Parts<Clear>,
+        y: &Parts<Clear>,
         to: &mut Duet,
-    ) -> Result<Parts<XorShare>, AllocError>
+    ) -> Result<Parts<Clear>, AllocError>
         requires known { AreKnown (self.now.0 ∷ self.now.1 ∷ []) to.old.next }
         requires room { HasCircuitRoom to.old.next }
-        ensures exact { IfOk result (λ z. Makes (computed self.now.0 self.now.1 op.Add (parts_of x.now ∷ parts_of y.now ∷ [])) to.old
-            (parts_of z) to.new) }
-        ensures hosts { IfOk result (λ z. hosts_of (parts_of z) ≡ self.now.0 ∷ self.now.1 ∷ []) }
+        ensures exact { IfOk result (λ z. Makes (computed self.now.0 self.now.1 op.Add (in_clear x.now ∷ in_clear y.now ∷ [])) to.old
+            (in_clear z) to.new) }
+        ensures hosts { IfOk result (λ z. hosts_of (in_clear z) ≡ self.now.0 ∷ self.now.1 ∷ []) }
         ensures few { OnOk result (TakesAtMost 1024 to.old.next to.new.next) }
     {
         let gates = sum_circuit(to.alloc())?;
@@ -153,15 +140,15 @@ impl XorPair {
     /// The difference, modulo 2^32, of two words.
     pub fn sub(
         &self,
-        x: &Parts<XorShare>,
-        y: &Parts<XorShare>,
+        x: &Parts<Clear>,
+        y: &Parts<Clear>,
         to: &mut Duet,
-    ) -> Result<Parts<XorShare>, AllocError>
+    ) -> Result<Parts<Clear>, AllocError>
         requires known { AreKnown (self.now.0 ∷ self.now.1 ∷ []) to.old.next }
         requires room { HasCircuitRoom to.old.next }
-        ensures exact { IfOk result (λ z. Makes (computed self.now.0 self.now.1 op.Sub (parts_of x.now ∷ parts_of y.now ∷ [])) to.old
-            (parts_of z) to.new) }
-        ensures hosts { IfOk result (λ z. hosts_of (parts_of z) ≡ self.now.0 ∷ self.now.1 ∷ []) }
+        ensures exact { IfOk result (λ z. Makes (computed self.now.0 self.now.1 op.Sub (in_clear x.now ∷ in_clear y.now ∷ [])) to.old
+            (in_clear z) to.new) }
+        ensures hosts { IfOk result (λ z. hosts_of (in_clear z) ≡ self.now.0 ∷ self.now.1 ∷ []) }
         ensures few { OnOk result (TakesAtMost 1024 to.old.next to.new.next) }
     {
         let gates = difference_circuit(to.alloc())?;
@@ -169,39 +156,23 @@ impl XorPair {
     }
 }
 
-/// The registers of the two parts of a word.
-fn shares(x: &Parts<XorShare>) -> PartRegisters
-    ensures { result ≡ shares_of (parts_of x.now) }
-{
-    match x.as_slice() {
-        [first, second, ..] => PartRegisters {
-            first: first.1.0,
-            second: second.1.0,
-        },
-        _ => PartRegisters {
-            first: Reg(0),
-            second: Reg(0),
-        },
-    }
-}
-
 /// The registers of the two parts of each operand.
-fn words_of(args: &Args<XorShare>, alloc: Global) -> Result<Items<PartRegisters>, AllocError>
-    ensures { IfOk result (λ words. words ≡ map shares_of (all_parts_of args.now)) }
+fn words_of(args: &Args<Clear>, alloc: Global) -> Result<Items<PartRegisters>, AllocError>
+    ensures { IfOk result (λ words. words ≡ map shares_of (all_placed (λ c. c.0) args.now)) }
 {
     let mut words = Items::new(alloc);
     for x in args.as_slice() {
-        words.push(shares(x))?;
+        words.push(PartRegisters::of(x))?;
     }
     Ok(words)
 }
 
 impl Backend for XorPair {
-    type Part = XorShare;
+    type Part = Clear;
 
     ghost calls = { λ b. bit_calls b.0 b.1 };
 
-    ghost register = { λ part. part.0 };
+    ghost register = { λ c. c.0 };
 
     fn proto(&self) -> Proto {
         Proto::Xor(self.0, self.1)
@@ -214,50 +185,46 @@ impl Backend for XorPair {
         }
     }
 
-    fn literal(&self, word: u32, to: &mut Duet) -> Result<Parts<XorShare>, AllocError> {
+    fn literal(&self, word: u32, to: &mut Duet) -> Result<Parts<Clear>, AllocError> {
         let x = self.pair().literal(word, to)?;
-        self.parts(x, to.alloc())
+        x.at(self.0, self.1, to.alloc())
     }
 
-    fn share(&self, from: HostId, x: Reg, to: &mut Duet) -> Result<Parts<XorShare>, AllocError> {
+    fn share(&self, from: HostId, x: Reg, to: &mut Duet) -> Result<Parts<Clear>, AllocError> {
         let y = self.pair().share(from, x, to)?;
-        self.parts(y, to.alloc())
+        y.at(self.0, self.1, to.alloc())
     }
 
-    fn adopt(&self, x: &Parts<Clear>, to: &mut Duet) -> Result<Parts<XorShare>, AllocError> {
+    fn adopt(&self, x: &Parts<Clear>, to: &mut Duet) -> Result<Parts<Clear>, AllocError> {
         let y = self.pair().adopt(x, to)?;
-        self.parts(y, to.alloc())
+        y.at(self.0, self.1, to.alloc())
     }
 
-    fn show(&self, x: &Parts<XorShare>, at: HostId, to: &mut Duet) -> Result<Clear, AllocError> {
-        Ok(Clear(self.pair().show(shares(x), at, to)?))
+    fn show(&self, x: &Parts<Clear>, at: HostId, to: &mut Duet) -> Result<Clear, AllocError> {
+        Ok(Clear(self.pair().show(PartRegisters::of(x), at, to)?))
     }
 
-    fn show_all(&self, x: &Parts<XorShare>, to: &mut Duet) -> Result<Parts<Clear>, AllocError> {
-        let y = self.pair().show_all(shares(x), to)?;
-        self.copies(y, to.alloc())
+    fn show_all(&self, x: &Parts<Clear>, to: &mut Duet) -> Result<Parts<Clear>, AllocError> {
+        let y = self.pair().show_all(PartRegisters::of(x), to)?;
+        y.at(self.0, self.1, to.alloc())
     }
 
-    fn keep(&self, x: &Parts<XorShare>, to: &mut Duet) -> Result<Parts<XorShare>, AllocError> {
-        let y = self.pair().keep(shares(x), to)?;
-        self.parts(y, to.alloc())
+    fn keep(&self, x: &Parts<Clear>, to: &mut Duet) -> Result<Parts<Clear>, AllocError> {
+        let y = self.pair().keep(PartRegisters::of(x), to)?;
+        y.at(self.0, self.1, to.alloc())
     }
 
     fn renew(
         &self,
-        kept: &Parts<XorShare>,
-        x: &Parts<XorShare>,
+        kept: &Parts<Clear>,
+        x: &Parts<Clear>,
         to: &mut Duet,
     ) -> Result<(), AllocError> {
-        self.pair().renew(shares(kept), shares(x), to)
+        self.pair()
+            .renew(PartRegisters::of(kept), PartRegisters::of(x), to)
     }
 
-    fn apply(
-        &self,
-        op: Op,
-        args: &Args<XorShare>,
-        to: &mut Duet,
-    ) -> Result<Parts<XorShare>, AllocError> {
+    fn apply(&self, op: Op, args: &Args<Clear>, to: &mut Duet) -> Result<Parts<Clear>, AllocError> {
         let gates = bit_circuit(op, to.alloc())?;
         self.circuit(gates.as_slice(), args, to)
     }

@@ -4,7 +4,7 @@ ghost use Rattle.vd_circuit.specs.CircuitCalls.{circuit_calls};
 use crate::circuits::circuit;
 use std::alloc::AllocError;
 use vd_base::{HostId, Op, Proto};
-use vd_bits::{XorPair, XorShare};
+use vd_bits::XorPair;
 use vd_duet::{Args, Backend, Clear, Duet, Parts};
 use vd_execution::Reg;
 
@@ -21,11 +21,11 @@ impl CircuitPair {
 }
 
 impl Backend for CircuitPair {
-    type Part = XorShare;
+    type Part = Clear;
 
     ghost calls = { λ b. circuit_calls b.0 b.1 };
 
-    ghost register = { λ part. part.0 };
+    ghost register = { λ c. c.0 };
 
     fn proto(&self) -> Proto {
         Proto::Xor(self.0, self.1)
@@ -38,45 +38,40 @@ impl Backend for CircuitPair {
         }
     }
 
-    fn literal(&self, word: u32, to: &mut Duet) -> Result<Parts<XorShare>, AllocError> {
+    fn literal(&self, word: u32, to: &mut Duet) -> Result<Parts<Clear>, AllocError> {
         self.bits().literal(word, to)
     }
 
-    fn share(&self, from: HostId, x: Reg, to: &mut Duet) -> Result<Parts<XorShare>, AllocError> {
+    fn share(&self, from: HostId, x: Reg, to: &mut Duet) -> Result<Parts<Clear>, AllocError> {
         self.bits().share(from, x, to)
     }
 
-    fn adopt(&self, x: &Parts<Clear>, to: &mut Duet) -> Result<Parts<XorShare>, AllocError> {
+    fn adopt(&self, x: &Parts<Clear>, to: &mut Duet) -> Result<Parts<Clear>, AllocError> {
         self.bits().adopt(x, to)
     }
 
-    fn show(&self, x: &Parts<XorShare>, at: HostId, to: &mut Duet) -> Result<Clear, AllocError> {
+    fn show(&self, x: &Parts<Clear>, at: HostId, to: &mut Duet) -> Result<Clear, AllocError> {
         self.bits().show(x, at, to)
     }
 
-    fn show_all(&self, x: &Parts<XorShare>, to: &mut Duet) -> Result<Parts<Clear>, AllocError> {
+    fn show_all(&self, x: &Parts<Clear>, to: &mut Duet) -> Result<Parts<Clear>, AllocError> {
         self.bits().show_all(x, to)
     }
 
-    fn keep(&self, x: &Parts<XorShare>, to: &mut Duet) -> Result<Parts<XorShare>, AllocError> {
+    fn keep(&self, x: &Parts<Clear>, to: &mut Duet) -> Result<Parts<Clear>, AllocError> {
         self.bits().keep(x, to)
     }
 
     fn renew(
         &self,
-        kept: &Parts<XorShare>,
-        x: &Parts<XorShare>,
+        kept: &Parts<Clear>,
+        x: &Parts<Clear>,
         to: &mut Duet,
     ) -> Result<(), AllocError> {
         self.bits().renew(kept, x, to)
     }
 
-    fn apply(
-        &self,
-        op: Op,
-        args: &Args<XorShare>,
-        to: &mut Duet,
-    ) -> Result<Parts<XorShare>, AllocError> {
+    fn apply(&self, op: Op, args: &Args<Clear>, to: &mut Duet) -> Result<Parts<Clear>, AllocError> {
         let gates = circuit(op, to.alloc())?;
         self.bits().circuit(gates.as_slice(), args, to)
     }

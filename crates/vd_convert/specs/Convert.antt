@@ -7,15 +7,10 @@ use Rattle.vd_execution.specs.declared.instructions.Binary.TheVariants as binary
 use Rattle.vd_execution.specs.declared.instructions.Action.TheVariants as action
 use Rattle.vd_execution.specs.Gadgets.{ByXors, Pairing, Gadget, Alone, BothShare, Opens, Paired}
 use Rattle.vd_execution.specs.Text.{register}
-use Rattle.vd_duet.specs.Calls.{Places, placed, Made}
+use Rattle.vd_duet.specs.Calls.{Places, Made}
 use Rattle.vd_backend_sharing.specs.declared.shares.PartRegisters.{PartRegisters}
 use Rattle.vd_backend_sharing.specs.PairCalls.{two, fresh_at, shares_of, places_at}
-use Rattle.vd_words.specs.declared.add_pair.AddShare.{AddShare}
 use Rattle.vd_bits.specs.BitCalls.{computed}
-
--- parts of sums, as hosts with registers
-abbrev pub added_parts : List (HostId × AddShare) → Places
-added_parts x = placed (λ part. part.0) x
 
 -- both hosts mask their parts by own words and give these to each other: the first host's part as a shared word, and the second's
 abbrev pub masking : HostId → HostId → PartRegisters → ℕ → ℕ → List Gadget

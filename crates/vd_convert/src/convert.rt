@@ -1,20 +1,18 @@
 ghost use Rattle.std.specs.Prelude.{◌≡◌, ◌<◌, ◌∷◌, [], IfOk, OnOk};
 ghost use Rattle.vd_execution.specs.Gadgets.{BothShare};
 ghost use Rattle.vd_duet.specs.Builder.{HasRoom, TakesAtMost, TakesFew};
-ghost use Rattle.vd_duet.specs.Calls.{Makes, appended, hosts_of};
+ghost use Rattle.vd_duet.specs.Calls.{Makes, appended, hosts_of, in_clear};
 ghost use Rattle.vd_duet.specs.Laws.{AreKnown};
-ghost use Rattle.vd_backend_sharing.specs.PairCalls.{AreLow, shares_of, places_at};
+ghost use Rattle.vd_backend_sharing.specs.PairCalls.{AreLow};
 ghost use Rattle.vd_backend_sharing.specs.declared.shares.Sharing.TheVariants as way;
-ghost use Rattle.vd_bits.specs.BitParts.{parts_of};
-ghost use Rattle.vd_convert.specs.Convert.{added_parts, masked_parts, drawn, finishing, finished, to_xor_made, to_add_made};
+ghost use Rattle.vd_convert.specs.Convert.{masked_parts, drawn, finishing, finished, to_xor_made, to_add_made};
 
-use std::alloc::{AllocError, Global};
+use std::alloc::AllocError;
 use vd_backend_sharing::{Pair, PartRegisters, Sharing, tell};
-use vd_base::{HostId, Items};
-use vd_bits::{XorPair, XorShare};
-use vd_duet::{Duet, Parts};
+use vd_bits::XorPair;
+use vd_duet::{Clear, Duet, Parts};
 use vd_execution::{Act, Action, Binary, Reg};
-use vd_words::{AddPair, AddShare};
+use vd_words::AddPair;
 
 /// Two words by their parts.
 #[derive(Clone, Copy)]
@@ -24,48 +22,35 @@ struct Two {
 }
 
 /// A word that is shared by sums becomes one that is shared by exclusive or: each part is shared, and the two are added.
-pub fn to_xor(
-    hosts: &AddPair,
-    x: &Parts<AddShare>,
-    to: &mut Duet,
-) -> Result<Parts<XorShare>, AllocError>
+pub fn to_xor(hosts: &AddPair, x: &Parts<Clear>, to: &mut Duet) -> Result<Parts<Clear>, AllocError>
     requires known { AreKnown (hosts.now.0 ∷ hosts.now.1 ∷ []) to.old.next }
     requires room { HasRoom 0 to.old.next }
-    ensures exact { IfOk result (λ y. Makes (to_xor_made hosts.now.0 hosts.now.1 (added_parts x.now)) to.old (parts_of y) to.new) }
-    ensures hosts { IfOk result (λ y. hosts_of (parts_of y) ≡ hosts.now.0 ∷ hosts.now.1 ∷ []) }
+    ensures exact { IfOk result (λ y. Makes (to_xor_made hosts.now.0 hosts.now.1 (in_clear x.now)) to.old (in_clear y) to.new) }
+    ensures hosts { IfOk result (λ y. hosts_of (in_clear y) ≡ hosts.now.0 ∷ hosts.now.1 ∷ []) }
     ensures few { OnOk result (TakesFew to.old.next to.new.next) }
 {
     let bits = XorPair(hosts.0, hosts.1);
-    let words = mask(&pair_of(&bits), added_shares(x), to)?;
-    let one = bit_parts(&bits, words.one, to.alloc())?;
-    let other = bit_parts(&bits, words.other, to.alloc())?;
+    let words = mask(&pair_of(&bits), PartRegisters::of(x), to)?;
+    let one = words.one.at(hosts.0, hosts.1, to.alloc())?;
+    let other = words.other.at(hosts.0, hosts.1, to.alloc())?;
     bits.add(&one, &other, to)
 }
 
 /// A word that is shared by exclusive or becomes one that is shared by sums, by a dealt pair: its word is taken off, what is
 /// left is opened, and the first host adds that to its part of the pair.
-pub fn to_add(
-    hosts: &XorPair,
-    x: &Parts<XorShare>,
-    to: &mut Duet,
-) -> Result<Parts<AddShare>, AllocError>
+pub fn to_add(hosts: &XorPair, x: &Parts<Clear>, to: &mut Duet) -> Result<Parts<Clear>, AllocError>
     requires known { AreKnown (hosts.now.0 ∷ hosts.now.1 ∷ []) to.old.next }
     requires room { HasRoom 0 to.old.next }
-    ensures exact { IfOk result (λ y. Makes (to_add_made hosts.now.0 hosts.now.1 (parts_of x.now)) to.old (added_parts y) to.new) }
-    ensures hosts { IfOk result (λ y. hosts_of (added_parts y) ≡ hosts.now.0 ∷ hosts.now.1 ∷ []) }
+    ensures exact { IfOk result (λ y. Makes (to_add_made hosts.now.0 hosts.now.1 (in_clear x.now)) to.old (in_clear y) to.new) }
+    ensures hosts { IfOk result (λ y. hosts_of (in_clear y) ≡ hosts.now.0 ∷ hosts.now.1 ∷ []) }
     ensures few { OnOk result (TakesFew to.old.next to.new.next) }
 {
-    let pair = draw(&pair_of(hosts), bit_shares(x), to)?;
-    let word = bit_parts(hosts, pair.other, to.alloc())?;
+    let pair = draw(&pair_of(hosts), PartRegisters::of(x), to)?;
+    let word = pair.other.at(hosts.0, hosts.1, to.alloc())?;
     let rest = hosts.sub(x, &word, to)?;
-    let made = finish(&pair_of(hosts), bit_shares(&rest), pair.one, to)?;
-    Ok(Items::from_slice(
-        to.alloc(),
-        &[
-            (hosts.0, AddShare(made.first)),
-            (hosts.1, AddShare(made.second)),
-        ],
-    )?)
+    let made = finish(&pair_of(hosts), PartRegisters::of(&rest), pair.one, to)?;
+    let sum = made.at(hosts.0, hosts.1, to.alloc())?;
+    Ok(sum)
 }
 
 fn pair_of(hosts: &XorPair) -> Pair
@@ -75,47 +60,6 @@ fn pair_of(hosts: &XorPair) -> Pair
         sharing: Sharing::Xors,
         first: hosts.0,
         second: hosts.1,
-    }
-}
-
-fn bit_parts(hosts: &XorPair, x: PartRegisters, alloc: Global) -> Result<Parts<XorShare>, AllocError>
-    ensures { IfOk result (λ y. parts_of y ≡ places_at hosts.now.0 hosts.now.1 x) }
-{
-    Ok(Items::from_slice(
-        alloc,
-        &[(hosts.0, XorShare(x.first)), (hosts.1, XorShare(x.second))],
-    )?)
-}
-
-/// The registers of the two parts of a word that is shared by sums.
-fn added_shares(x: &Parts<AddShare>) -> PartRegisters
-    ensures { result ≡ shares_of (added_parts x.now) }
-{
-    match x.as_slice() {
-        [first, second, ..] => PartRegisters {
-            first: first.1.0,
-            second: second.1.0,
-        },
-        _ => PartRegisters {
-            first: Reg(0),
-            second: Reg(0),
-        },
-    }
-}
-
-/// The registers of the two parts of a word that is shared by exclusive or.
-fn bit_shares(x: &Parts<XorShare>) -> PartRegisters
-    ensures { result ≡ shares_of (parts_of x.now) }
-{
-    match x.as_slice() {
-        [first, second, ..] => PartRegisters {
-            first: first.1.0,
-            second: second.1.0,
-        },
-        _ => PartRegisters {
-            first: Reg(0),
-            second: Reg(0),
-        },
     }
 }
 
@@ -190,7 +134,12 @@ fn draw(pair: &Pair, x: PartRegisters, to: &mut Duet) -> Result<Two, AllocError>
 }
 
 /// Both hosts open what is left, and the first adds it to its part of the pair.
-fn finish(pair: &Pair, rest: PartRegisters, sum: PartRegisters, to: &mut Duet) -> Result<PartRegisters, AllocError>
+fn finish(
+    pair: &Pair,
+    rest: PartRegisters,
+    sum: PartRegisters,
+    to: &mut Duet,
+) -> Result<PartRegisters, AllocError>
     requires known { AreKnown (pair.now.first ∷ pair.now.second ∷ []) to.old.next }
     requires room { AreLow to.old.next }
     ensures exact { IfOk result (λ y. Makes (finished pair.now.first pair.now.second rest sum) to.old y to.new) }
@@ -207,7 +156,13 @@ fn finish(pair: &Pair, rest: PartRegisters, sum: PartRegisters, to: &mut Duet) -
 }
 
 /// Both hosts join the parts of what is left, and the first adds its part of the pair.
-fn join(pair: &Pair, rest: PartRegisters, sum: PartRegisters, at: PartRegisters, to: &mut Duet) -> Result<(), AllocError>
+fn join(
+    pair: &Pair,
+    rest: PartRegisters,
+    sum: PartRegisters,
+    at: PartRegisters,
+    to: &mut Duet,
+) -> Result<(), AllocError>
     requires low_first { at.first.0 < 4000000016 }
     requires low_second { at.second.0 < 4000000016 }
     ensures { OnOk result (to.new ≡ appended (finishing pair.now.first pair.now.second rest sum at.first.0 at.second.0) to.old) }

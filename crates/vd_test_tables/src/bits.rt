@@ -11,7 +11,7 @@ use crate::code::{first_of, print_code};
 use std::alloc::{AllocError, Global};
 use std::io::{self, Write};
 use vd_base::{HostId, Items, Op};
-use vd_bits::{XorPair, XorShare};
+use vd_bits::XorPair;
 use vd_circuit::CircuitPair;
 use vd_clear::LocalHost;
 use vd_duet::{Args, Backend, Clear, Duet, Parts};
@@ -82,7 +82,7 @@ fn print_order<W: Write>(to: &mut W, alloc: Global) -> io::Result<()> {
 }
 
 /// A choice and two numbers, shared.
-fn choice(pair: &CircuitPair, to: &mut Duet) -> Result<Args<XorShare>, AllocError>
+fn choice(pair: &CircuitPair, to: &mut Duet) -> Result<Args<Clear>, AllocError>
     requires known { AreKnown (holders (circuit_calls pair.now.0 pair.now.1).proto) to.old.next }
     requires hosts { length to.old.next ≡ 2 }
     requires room { HasRoom 16384 to.old.next }

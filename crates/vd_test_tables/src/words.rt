@@ -9,7 +9,7 @@ use std::io::{self, Write};
 use vd_base::{HostId, Items, Op};
 use vd_clear::LocalHost;
 use vd_duet::{Backend, Clear, Duet};
-use vd_words::{AddPair, AddShare};
+use vd_words::AddPair;
 
 fn multiplied(to: &mut Duet) -> Result<Clear, AllocError>
     requires hosts { length to.old.next ≡ 2 }

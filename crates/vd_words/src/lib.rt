@@ -4,5 +4,5 @@
 mod add_pair;
 mod laws;
 
-pub use add_pair::{AddPair, AddShare};
+pub use add_pair::AddPair;
 pub use laws::{shared_sums_are_a_back_end, worked_numbers};
