@@ -9,7 +9,7 @@ ghost use Rattle.vd_backend_sharing.specs.PairCalls.{AreLow, reserved_both, lite
 use crate::shares::{PartRegisters, Sharing};
 use std::alloc::AllocError;
 use vd_base::{HostId, Items};
-use vd_duet::{Clear, Duet, Parts, register_at};
+use vd_duet::{Duet, Part, Parts, register_at};
 use vd_execution::{Act, Action, Binary, Reg};
 
 /// Two hosts that share words.
@@ -121,7 +121,7 @@ impl Pair {
     }
 
     /// The move of a word that both hosts have in clear: the first keeps its copy, and the second has 0.
-    pub fn adopt(&self, x: &Parts<Clear>, to: &mut Duet) -> Result<PartRegisters, AllocError>
+    pub fn adopt(&self, x: &Parts, to: &mut Duet) -> Result<PartRegisters, AllocError>
         requires known { AreKnown (self.now.first ∷ self.now.second ∷ []) to.old.next }
         requires room { AreLow to.old.next }
         ensures exact { IfOk result (λ y. Makes (adopted_shares self.now.first self.now.second (in_clear x.now)) to.old y to.new) }

@@ -6,7 +6,7 @@ ghost use Rattle.vd_backend_sharing.specs.PairCalls.{places_at, shares_of};
 
 use std::alloc::{AllocError, Global};
 use vd_base::{HostId, Items};
-use vd_duet::{Clear, Parts};
+use vd_duet::{Part, Parts};
 use vd_execution::{Binary, Reg};
 
 /// How the parts of two hosts make a word.
@@ -59,7 +59,7 @@ pub struct PartRegisters {
 
 impl PartRegisters {
     /// Those of a word of two parts. A word that has fewer has register 0 for both.
-    pub fn of(x: &Parts<Clear>) -> PartRegisters
+    pub fn of(x: &Parts) -> PartRegisters
         ensures { result ≡ shares_of (in_clear x.now) }
     {
         match x.as_slice() {
@@ -75,17 +75,12 @@ impl PartRegisters {
     }
 
     /// The word whose parts two hosts have in these registers.
-    pub fn at(
-        self,
-        first: HostId,
-        second: HostId,
-        alloc: Global,
-    ) -> Result<Parts<Clear>, AllocError>
+    pub fn at(self, first: HostId, second: HostId, alloc: Global) -> Result<Parts, AllocError>
         ensures { IfOk result (λ y. in_clear y ≡ places_at first second self) }
     {
         Ok(Items::from_slice(
             alloc,
-            &[(first, Clear(self.first)), (second, Clear(self.second))],
+            &[(first, Part(self.first)), (second, Part(self.second))],
         )?)
     }
 }

@@ -9,7 +9,7 @@ use Rattle.vd_execution.specs.declared.instructions.Reg.{Reg}
 use Rattle.vd_duet.specs.Builder.{Builder, HasRoom, added, reserved, taken}
 use Rattle.vd_duet.specs.Calls.{called, in_clear, hosts_of}
 use Rattle.vd_duet.specs.Laws.{IsHost, AreKnown}
-use Rattle.vd_duet.specs.declared.parts.Clear.{Clear}
+use Rattle.vd_duet.specs.declared.parts.Part.{Part}
 use Rattle.vd_duet.proofs.Front.{taken_known, taken_there, taken_other}
 use Rattle.vd_clear.specs.Copies.{each_made}
 use Rattle.vd_clear.proofs.Front.{behind, behind_end, each_hosts, each_step}
@@ -23,7 +23,7 @@ zeros_made size h b b1 b2 r e f =
     ∙ ap (λ (z : Reg × Builder). let p : Reg × Builder = (z.0, added (act.Do h (action.Zero z.0 size)) z.1) in p) e
 
 -- what the loop keeps: the hosts that are left have all the registers that they had
-pub record SoFar (size : ℕ) (hs : List HostId) (i : ℕ) (xs : List (HostId × Clear)) (start b : Builder) : Type 0 where
+pub record SoFar (size : ℕ) (hs : List HostId) (i : ℕ) (xs : List (HostId × Part)) (start b : Builder) : Type 0 where
   pub exact : behind (in_clear xs) (each_made (zeros_at size) (drop i hs) b.next) b ≡ called (each_made (zeros_at size) hs start.next) start
   pub known : AreKnown (drop i hs) start.next
   pub apart : AreApart (drop i hs)
@@ -31,7 +31,7 @@ pub record SoFar (size : ℕ) (hs : List HostId) (i : ℕ) (xs : List (HostId ×
   pub few : (h : ℕ) → slice_index b.next h ≤ slice_index start.next h + size
   pub left : (h : ℕ) → IsHost (drop i hs) h → slice_index b.next h ≤ slice_index start.next h
 
-module _ (size : ℕ) (hs : List HostId) (i : ℕ) (d : HostId) (low : i < length hs) (xs : List (HostId × Clear)) (start b : Builder) (s : SoFar size hs i xs start b) where
+module _ (size : ℕ) (hs : List HostId) (i : ℕ) (d : HostId) (low : i < length hs) (xs : List (HostId × Part)) (start b : Builder) (s : SoFar size hs i xs start b) where
   abbrev h : HostId
   h = get_or hs i d
 
@@ -53,7 +53,7 @@ module _ (size : ℕ) (hs : List HostId) (i : ℕ) (d : HostId) (low : i < lengt
   pub zeros_room : HasRoom size start.next → slice_index b.next h.0 + size < 2 ^ 32
   zeros_room room = let p = room h.0 in let q = still h.0 (inl refl) in omega (arith, p, q)
 
-  pub zeros_turn : (ys : List (HostId × Clear)) (b1 b2 : Builder) (r : Reg) → (r, b1) ≡ reserved h size b → b2 ≡ added (act.Do h (action.Zero r size)) b1
+  pub zeros_turn : (ys : List (HostId × Part)) (b1 b2 : Builder) (r : Reg) → (r, b1) ≡ reserved h size b → b2 ≡ added (act.Do h (action.Zero r size)) b1
       → ys ≡ xs ++ (h, record { 0 = r }) ∷ [] → SoFar size hs (i + 1) ys start b2
   zeros_turn ys b1 b2 r e f longer = record {
     exact =
@@ -92,7 +92,7 @@ module _ (size : ℕ) (hs : List HostId) (i : ℕ) (d : HostId) (low : i < lengt
           let q = still k (inr j) in
           omega (arith, q, t)
 
-module _ (size : ℕ) (hs : List HostId) (i : ℕ) (xs : List (HostId × Clear)) (start b : Builder) (past : length hs ≤ i) (s : SoFar size hs i xs start b) where
+module _ (size : ℕ) (hs : List HostId) (i : ℕ) (xs : List (HostId × Part)) (start b : Builder) (past : length hs ≤ i) (s : SoFar size hs i xs start b) where
   none : drop i hs ≡ []
   none = drop_all i hs past
 

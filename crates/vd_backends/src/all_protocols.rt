@@ -8,7 +8,7 @@ use crate::{acting, arrays, back_ends, loops, moves};
 use std::alloc::{AllocError, Global};
 use std::marker::Model;
 use vd_base::{HostId, Items, Op, Proto};
-use vd_duet::{Clear, Duet, register_at};
+use vd_duet::{Duet, Part, register_at};
 use vd_execution::{Act, Action};
 use vd_split::Protocols;
 
@@ -105,7 +105,7 @@ impl Protocols for AllProtocols {
     fn input(&self, host: HostId, to: &mut Duet) -> Result<Placement, AllocError> {
         let at = to.reserve(host, 1);
         to.add(Act::Do(host, Action::Input(at)))?;
-        let copies = Items::from_slice(to.alloc(), &[(host, Clear(at))])?;
+        let copies = Items::from_slice(to.alloc(), &[(host, Part(at))])?;
         Ok(Placement::word(copies))
     }
 

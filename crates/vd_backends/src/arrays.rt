@@ -17,11 +17,11 @@ use crate::placement::Placement;
 use std::alloc::AllocError;
 use vd_base::{HostId, Items, Proto, holders};
 use vd_clear::{Step, each_host};
-use vd_duet::{Clear, Duet, Parts, register_at};
+use vd_duet::{Duet, Part, Parts, register_at};
 use vd_execution::{Act, Action, Reg};
 
 /// So many zeros in fresh registers of each of these hosts.
-fn zeros(hosts: &[HostId], size: u32, to: &mut Duet) -> Result<Parts<Clear>, AllocError>
+fn zeros(hosts: &[HostId], size: u32, to: &mut Duet) -> Result<Parts, AllocError>
     requires apart { AreApart hosts.now }
     requires known { AreKnown hosts.now to.old.next }
     requires room { HasRoom size to.old.next }
@@ -33,13 +33,13 @@ fn zeros(hosts: &[HostId], size: u32, to: &mut Duet) -> Result<Parts<Clear>, All
     for host in hosts {
         let at = to.reserve(*host, size);
         to.add(Act::Do(*host, Action::Zero(at, size)))?;
-        parts.push((*host, Clear(at)))?;
+        parts.push((*host, Part(at)))?;
     }
     Ok(parts)
 }
 
 /// An array of so many zeros.
-pub(crate) fn cells(at: Proto, size: u32, to: &mut Duet) -> Result<Parts<Clear>, AllocError>
+pub(crate) fn cells(at: Proto, size: u32, to: &mut Duet) -> Result<Parts, AllocError>
     requires apart { AreApart (holders_of at) }
     requires known { AreKnown (holders_of at) to.old.next }
     requires room { HasRoom size to.old.next }
@@ -87,7 +87,7 @@ pub(crate) fn get(
     x: &Placement,
     index: &[(u8, u32)],
     to: &mut Duet,
-) -> Result<Parts<Clear>, AllocError>
+) -> Result<Parts, AllocError>
     requires known { AreKnown (holders_of at) to.old.next }
     requires room { HasRoom 0 to.old.next }
     ensures exact { IfOk result (λ y. Makes (cell_read at x.now index.now) to.old (in_clear y) to.new) }

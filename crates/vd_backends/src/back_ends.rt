@@ -14,12 +14,12 @@ use std::alloc::AllocError;
 use vd_base::{HostId, Items, Op, Proto};
 use vd_circuit::CircuitPair;
 use vd_clear::{LocalHost, Replica};
-use vd_duet::{Args, Backend, Clear, Duet, Parts};
+use vd_duet::{Args, Backend, Duet, Part, Parts};
 use vd_execution::Reg;
 use vd_words::AddPair;
 
 /// A number. At a commitment, where none can stand, nothing is made.
-pub(crate) fn literal(at: Proto, word: u32, to: &mut Duet) -> Result<Parts<Clear>, AllocError>
+pub(crate) fn literal(at: Proto, word: u32, to: &mut Duet) -> Result<Parts, AllocError>
     requires known { AreKnown (holders at) to.old.next }
     requires room { HasRoom 0 to.old.next }
     ensures exact { IfOk result (λ x. Makes ((back_end at).literal word) to.old (in_clear x) to.new) }
@@ -36,12 +36,7 @@ pub(crate) fn literal(at: Proto, word: u32, to: &mut Duet) -> Result<Parts<Clear
 }
 
 /// The move of a word from one host that has it in clear.
-pub(crate) fn share(
-    at: Proto,
-    from: HostId,
-    x: Reg,
-    to: &mut Duet,
-) -> Result<Parts<Clear>, AllocError>
+pub(crate) fn share(at: Proto, from: HostId, x: Reg, to: &mut Duet) -> Result<Parts, AllocError>
     requires known { AreKnown (holders at) to.old.next }
     requires from { from.0 < length to.old.next }
     requires room { HasRoom 0 to.old.next }
@@ -59,7 +54,7 @@ pub(crate) fn share(
 }
 
 /// A copy in fresh registers. Of a commitment, which is no variable's, nothing is made.
-pub(crate) fn keep(at: Proto, x: &Parts<Clear>, to: &mut Duet) -> Result<Parts<Clear>, AllocError>
+pub(crate) fn keep(at: Proto, x: &Parts, to: &mut Duet) -> Result<Parts, AllocError>
     requires known { AreKnown (holders at) to.old.next }
     requires placed { AreFormed at (in_clear x.now) }
     requires room { HasRoom 0 to.old.next }
@@ -77,12 +72,7 @@ pub(crate) fn keep(at: Proto, x: &Parts<Clear>, to: &mut Duet) -> Result<Parts<C
 }
 
 /// A copy of `x` into the registers of `kept`. Of a commitment, which is no variable's, nothing is copied.
-pub(crate) fn renew(
-    at: Proto,
-    kept: &Parts<Clear>,
-    x: &Parts<Clear>,
-    to: &mut Duet,
-) -> Result<(), AllocError>
+pub(crate) fn renew(at: Proto, kept: &Parts, x: &Parts, to: &mut Duet) -> Result<(), AllocError>
     requires kept { AreFormed at (in_clear kept.now) }
     requires placed { AreFormed at (in_clear x.now) }
     ensures { OnOk result (to.new ≡ appended ((back_end at).renew (in_clear kept.now) (in_clear x.now)) to.old) }
@@ -97,12 +87,7 @@ pub(crate) fn renew(
 }
 
 /// An operation on as many operands as it takes. None is served at a commitment.
-pub(crate) fn apply(
-    op: Op,
-    at: Proto,
-    args: &Args<Clear>,
-    to: &mut Duet,
-) -> Result<Parts<Clear>, AllocError>
+pub(crate) fn apply(op: Op, at: Proto, args: &Args, to: &mut Duet) -> Result<Parts, AllocError>
     requires known { AreKnown (holders at) to.old.next }
     requires serves { IsTrue ((back_end at).serves op) }
     requires arity { length args.now ≡ arity op }

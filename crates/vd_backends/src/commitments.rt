@@ -14,11 +14,11 @@ ghost use Rattle.vd_backends.specs.Moving.{Shows};
 use std::alloc::{AllocError, Global};
 use vd_base::{HostId, Items};
 use vd_commit::{Held, Seen, commit, reveal};
-use vd_duet::{Clear, Duet, Parts};
+use vd_duet::{Duet, Part, Parts};
 use vd_execution::Reg;
 
 /// The register at a place, and 0 where there is none.
-fn place(x: &Parts<Clear>, at: usize) -> Reg
+fn place(x: &Parts, at: usize) -> Reg
     ensures { result ≡ place_of (in_clear x.now) at }
 {
     match x.as_slice().get(at) {
@@ -28,7 +28,7 @@ fn place(x: &Parts<Clear>, at: usize) -> Reg
 }
 
 /// What the host that is bound keeps.
-fn held(x: &Parts<Clear>) -> Held
+fn held(x: &Parts) -> Held
     ensures { result ≡ held_of (in_clear x.now) }
 {
     Held {
@@ -38,7 +38,7 @@ fn held(x: &Parts<Clear>) -> Held
 }
 
 /// What the other host keeps.
-fn seen(x: &Parts<Clear>) -> Seen
+fn seen(x: &Parts) -> Seen
     ensures { result ≡ seen_of (in_clear x.now) }
 {
     Seen {
@@ -53,7 +53,7 @@ fn parts(
     held: Held,
     seen: Seen,
     alloc: Global,
-) -> Result<Parts<Clear>, AllocError>
+) -> Result<Parts, AllocError>
     requires nonce { held.nonce.0 < 4000000000 }
     requires digest { seen.digest.0 < 4000000000 }
     ensures { IfOk result (λ y. in_clear y ≡ places_of bound keeper (held, seen)) }
@@ -62,23 +62,23 @@ fn parts(
     Ok(Items::from_slice(
         alloc,
         &[
-            (bound, Clear(held.value)),
-            (bound, Clear(Reg(n))),
-            (bound, Clear(Reg(n + 1))),
-            (bound, Clear(Reg(n + 2))),
-            (bound, Clear(Reg(n + 3))),
-            (bound, Clear(Reg(n + 4))),
-            (bound, Clear(Reg(n + 5))),
-            (bound, Clear(Reg(n + 6))),
-            (bound, Clear(Reg(n + 7))),
-            (keeper, Clear(Reg(d))),
-            (keeper, Clear(Reg(d + 1))),
-            (keeper, Clear(Reg(d + 2))),
-            (keeper, Clear(Reg(d + 3))),
-            (keeper, Clear(Reg(d + 4))),
-            (keeper, Clear(Reg(d + 5))),
-            (keeper, Clear(Reg(d + 6))),
-            (keeper, Clear(Reg(d + 7))),
+            (bound, Part(held.value)),
+            (bound, Part(Reg(n))),
+            (bound, Part(Reg(n + 1))),
+            (bound, Part(Reg(n + 2))),
+            (bound, Part(Reg(n + 3))),
+            (bound, Part(Reg(n + 4))),
+            (bound, Part(Reg(n + 5))),
+            (bound, Part(Reg(n + 6))),
+            (bound, Part(Reg(n + 7))),
+            (keeper, Part(Reg(d))),
+            (keeper, Part(Reg(d + 1))),
+            (keeper, Part(Reg(d + 2))),
+            (keeper, Part(Reg(d + 3))),
+            (keeper, Part(Reg(d + 4))),
+            (keeper, Part(Reg(d + 5))),
+            (keeper, Part(Reg(d + 6))),
+            (keeper, Part(Reg(d + 7))),
         ],
     )?)
 }
@@ -89,7 +89,7 @@ pub(crate) fn commit_to(
     keeper: HostId,
     x: Reg,
     to: &mut Duet,
-) -> Result<Parts<Clear>, AllocError>
+) -> Result<Parts, AllocError>
     requires known { AreKnown (bound ∷ keeper ∷ []) to.old.next }
     requires room { HasRoom 0 to.old.next }
     ensures exact { IfOk result (λ y. Makes (bound_at bound keeper x) to.old (in_clear y) to.new) }
@@ -104,10 +104,10 @@ pub(crate) fn commit_to(
 pub(crate) fn show_bound(
     bound: HostId,
     keeper: HostId,
-    x: &Parts<Clear>,
+    x: &Parts,
     at: HostId,
     to: &mut Duet,
-) -> Result<Parts<Clear>, AllocError>
+) -> Result<Parts, AllocError>
     requires known { AreKnown (bound ∷ keeper ∷ []) to.old.next }
     requires named { IsTrue (is_named (in_clear x.now)) }
     requires room { HasRoom 0 to.old.next }
@@ -116,7 +116,7 @@ pub(crate) fn show_bound(
     ensures few { OnOk result (TakesFew to.old.next to.new.next) }
 {
     let shown = if at.0 == bound.0 {
-        Clear(place(x, 0))
+        Part(place(x, 0))
     } else {
         reveal(bound, keeper, held(x), seen(x), to)?
     };
@@ -127,9 +127,9 @@ pub(crate) fn show_bound(
 pub(crate) fn show_both(
     bound: HostId,
     keeper: HostId,
-    x: &Parts<Clear>,
+    x: &Parts,
     to: &mut Duet,
-) -> Result<Parts<Clear>, AllocError>
+) -> Result<Parts, AllocError>
     requires known { AreKnown (bound ∷ keeper ∷ []) to.old.next }
     requires named { IsTrue (is_named (in_clear x.now)) }
     requires room { HasRoom 0 to.old.next }
@@ -139,7 +139,7 @@ pub(crate) fn show_both(
     let revealed = reveal(bound, keeper, held(x), seen(x), to)?;
     Ok(Items::from_slice(
         to.alloc(),
-        &[(bound, Clear(place(x, 0))), (keeper, revealed)],
+        &[(bound, Part(place(x, 0))), (keeper, revealed)],
     )?)
 }
 
@@ -147,9 +147,9 @@ pub(crate) fn show_both(
 pub(crate) fn same_bound(
     bound: HostId,
     keeper: HostId,
-    x: &Parts<Clear>,
+    x: &Parts,
     alloc: Global,
-) -> Result<Parts<Clear>, AllocError>
+) -> Result<Parts, AllocError>
     requires named { IsTrue (is_named (in_clear x.now)) }
     ensures exact { IfOk result (λ y. in_clear y ≡ places_of bound keeper (held_of (in_clear x.now), seen_of (in_clear x.now))) }
     ensures named { IfOk result (λ y. AreFormed (proto.Commit bound keeper) (in_clear y)) }

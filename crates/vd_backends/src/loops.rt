@@ -14,7 +14,7 @@ ghost use Rattle.vd_backends.specs.Turns.{shared_turn};
 use std::alloc::{AllocError, Global};
 use vd_base::{HostId, Proto};
 use vd_clear::{Step, each_host};
-use vd_duet::{Clear, Duet, Parts};
+use vd_duet::{Duet, Part, Parts};
 use vd_execution::{Act, Action, Reg};
 
 /// A host's register among those of a loop.
@@ -74,7 +74,7 @@ impl<'a> Step for ShareTurn<'a> {
 }
 
 /// The number of the turn, from the registers of the innermost loop, by host.
-pub(crate) fn turn(at: Proto, turns: &[u32], to: &mut Duet) -> Result<Parts<Clear>, AllocError>
+pub(crate) fn turn(at: Proto, turns: &[u32], to: &mut Duet) -> Result<Parts, AllocError>
     requires known { AreKnown (holders_of at) to.old.next }
     requires room { HasRoom 0 to.old.next }
     ensures exact { IfOk result (λ x. Makes (turned at turns.now) to.old (in_clear x) to.new) }

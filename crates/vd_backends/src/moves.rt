@@ -24,12 +24,12 @@ use vd_bits::XorPair;
 use vd_circuit::CircuitPair;
 use vd_clear::{Replica, spread};
 use vd_convert::{to_add, to_xor};
-use vd_duet::{Backend, Clear, Duet, Parts, register_at};
+use vd_duet::{Backend, Duet, Part, Parts, register_at};
 use vd_execution::Reg;
 use vd_words::AddPair;
 
 /// The register of a word that one host has.
-fn only(x: &Parts<Clear>) -> Reg
+fn only(x: &Parts) -> Reg
     ensures { result ≡ only_of (in_clear x.now) }
 {
     match x.as_slice() {
@@ -39,12 +39,7 @@ fn only(x: &Parts<Clear>) -> Reg
 }
 
 /// The move of a word from copies to one host.
-fn show(
-    set: HostSet,
-    x: &Parts<Clear>,
-    at: HostId,
-    to: &mut Duet,
-) -> Result<Parts<Clear>, AllocError>
+fn show(set: HostSet, x: &Parts, at: HostId, to: &mut Duet) -> Result<Parts, AllocError>
     requires known { AreKnown (holders (proto.Rep set)) to.old.next }
     requires at { at.0 < length to.old.next }
     requires placed { hosts_of (in_clear x.now) ≡ holders (proto.Rep set) }
@@ -58,12 +53,7 @@ fn show(
 }
 
 /// The move of a word from copies to another protocol.
-fn bring_copies(
-    set: HostSet,
-    onto: Proto,
-    x: &Parts<Clear>,
-    to: &mut Duet,
-) -> Result<Parts<Clear>, AllocError>
+fn bring_copies(set: HostSet, onto: Proto, x: &Parts, to: &mut Duet) -> Result<Parts, AllocError>
     requires known { AreKnown (holders (proto.Rep set)) to.old.next }
     requires onto_known { AreKnown (holders onto) to.old.next }
     requires placed { hosts_of (in_clear x.now) ≡ holders (proto.Rep set) }
@@ -82,36 +72,26 @@ fn bring_copies(
 }
 
 /// Of copies, those at these hosts.
-fn copies_at(hosts: &[HostId], x: &Parts<Clear>, alloc: Global) -> Result<Parts<Clear>, AllocError>
+fn copies_at(hosts: &[HostId], x: &Parts, alloc: Global) -> Result<Parts, AllocError>
     ensures exact { IfOk result (λ y. in_clear y ≡ copies_of hosts.now (in_clear x.now)) }
     ensures hosts { IfOk result (λ y. hosts_of (in_clear y) ≡ hosts.now) }
 {
     let mut copies = Items::new(alloc);
     for host in hosts {
-        copies.push((*host, Clear(register_at(x, *host))))?;
+        copies.push((*host, Part(register_at(x, *host))))?;
     }
     Ok(copies)
 }
 
 /// The registers of two parts, as those of these hosts.
-fn same(
-    first: HostId,
-    second: HostId,
-    x: &Parts<Clear>,
-    alloc: Global,
-) -> Result<Parts<Clear>, AllocError>
+fn same(first: HostId, second: HostId, x: &Parts, alloc: Global) -> Result<Parts, AllocError>
     ensures { IfOk result (λ y. in_clear y ≡ places_at first second (shares_of (in_clear x.now))) }
 {
     PartRegisters::of(x).at(first, second, alloc)
 }
 
 /// The move of a word from sums of two hosts to one host.
-fn show_sums(
-    pair: AddPair,
-    x: &Parts<Clear>,
-    at: HostId,
-    to: &mut Duet,
-) -> Result<Parts<Clear>, AllocError>
+fn show_sums(pair: AddPair, x: &Parts, at: HostId, to: &mut Duet) -> Result<Parts, AllocError>
     requires known { AreKnown (holders (proto.Add pair.0 pair.1)) to.old.next }
     requires at { at.0 < length to.old.next }
     requires placed { hosts_of (in_clear x.now) ≡ holders (proto.Add pair.0 pair.1) }
@@ -125,12 +105,7 @@ fn show_sums(
 }
 
 /// The move of a word from sums of two hosts to copies at both.
-fn open_sums(
-    pair: AddPair,
-    set: HostSet,
-    x: &Parts<Clear>,
-    to: &mut Duet,
-) -> Result<Parts<Clear>, AllocError>
+fn open_sums(pair: AddPair, set: HostSet, x: &Parts, to: &mut Duet) -> Result<Parts, AllocError>
     requires known { AreKnown (holders (proto.Add pair.0 pair.1)) to.old.next }
     requires placed { hosts_of (in_clear x.now) ≡ holders (proto.Add pair.0 pair.1) }
     requires room { HasRoom 0 to.old.next }
@@ -144,12 +119,7 @@ fn open_sums(
 }
 
 /// The move of a word from exclusive ors of two hosts to one host.
-fn show_bits(
-    pair: CircuitPair,
-    x: &Parts<Clear>,
-    at: HostId,
-    to: &mut Duet,
-) -> Result<Parts<Clear>, AllocError>
+fn show_bits(pair: CircuitPair, x: &Parts, at: HostId, to: &mut Duet) -> Result<Parts, AllocError>
     requires known { AreKnown (holders (proto.Xor pair.0 pair.1)) to.old.next }
     requires at { at.0 < length to.old.next }
     requires placed { hosts_of (in_clear x.now) ≡ holders (proto.Xor pair.0 pair.1) }
@@ -163,12 +133,7 @@ fn show_bits(
 }
 
 /// The move of a word from exclusive ors of two hosts to copies at both.
-fn open_bits(
-    pair: CircuitPair,
-    set: HostSet,
-    x: &Parts<Clear>,
-    to: &mut Duet,
-) -> Result<Parts<Clear>, AllocError>
+fn open_bits(pair: CircuitPair, set: HostSet, x: &Parts, to: &mut Duet) -> Result<Parts, AllocError>
     requires known { AreKnown (holders (proto.Xor pair.0 pair.1)) to.old.next }
     requires placed { hosts_of (in_clear x.now) ≡ holders (proto.Xor pair.0 pair.1) }
     requires room { HasRoom 0 to.old.next }
@@ -186,9 +151,9 @@ fn bring_sums(
     first: HostId,
     second: HostId,
     onto: Proto,
-    x: &Parts<Clear>,
+    x: &Parts,
     to: &mut Duet,
-) -> Result<Parts<Clear>, AllocError>
+) -> Result<Parts, AllocError>
     requires known { AreKnown (holders (proto.Add first second)) to.old.next }
     requires onto_known { AreKnown (holders onto) to.old.next }
     requires placed { hosts_of (in_clear x.now) ≡ holders (proto.Add first second) }
@@ -212,9 +177,9 @@ fn bring_bits(
     first: HostId,
     second: HostId,
     onto: Proto,
-    x: &Parts<Clear>,
+    x: &Parts,
     to: &mut Duet,
-) -> Result<Parts<Clear>, AllocError>
+) -> Result<Parts, AllocError>
     requires known { AreKnown (holders (proto.Xor first second)) to.old.next }
     requires onto_known { AreKnown (holders onto) to.old.next }
     requires placed { hosts_of (in_clear x.now) ≡ holders (proto.Xor first second) }
@@ -238,9 +203,9 @@ fn open_bound(
     bound: HostId,
     keeper: HostId,
     set: HostSet,
-    x: &Parts<Clear>,
+    x: &Parts,
     to: &mut Duet,
-) -> Result<Parts<Clear>, AllocError>
+) -> Result<Parts, AllocError>
     requires known { AreKnown (bound ∷ keeper ∷ []) to.old.next }
     requires named { IsTrue (is_named (in_clear x.now)) }
     requires room { HasRoom 0 to.old.next }
@@ -258,9 +223,9 @@ fn bring_bound(
     bound: HostId,
     keeper: HostId,
     onto: Proto,
-    x: &Parts<Clear>,
+    x: &Parts,
     to: &mut Duet,
-) -> Result<Parts<Clear>, AllocError>
+) -> Result<Parts, AllocError>
     requires known { AreKnown (bound ∷ keeper ∷ []) to.old.next }
     requires onto_known { AreKnown (holders onto) to.old.next }
     requires named { IsTrue (is_named (in_clear x.now)) }
@@ -279,12 +244,7 @@ fn bring_bound(
 }
 
 /// The move of a word from one protocol to another. Between two that do not join, what it gives has the form of the second.
-pub(crate) fn bring(
-    from: Proto,
-    onto: Proto,
-    x: &Parts<Clear>,
-    to: &mut Duet,
-) -> Result<Parts<Clear>, AllocError>
+pub(crate) fn bring(from: Proto, onto: Proto, x: &Parts, to: &mut Duet) -> Result<Parts, AllocError>
     requires known { AreKnown (holders from) to.old.next }
     requires onto_known { AreKnown (holders onto) to.old.next }
     requires placed { AreFormed from (in_clear x.now) }

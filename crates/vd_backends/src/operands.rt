@@ -6,10 +6,10 @@ ghost use Rattle.vd_duet.specs.Calls.{all_placed};
 use crate::placement::Placement;
 use std::alloc::{AllocError, Global};
 use vd_base::Items;
-use vd_duet::{Args, Clear};
+use vd_duet::{Args, Part};
 
 /// The registers of operands.
-pub(crate) fn operands(xs: &Items<Placement>, alloc: Global) -> Result<Args<Clear>, AllocError>
+pub(crate) fn operands(xs: &Items<Placement>, alloc: Global) -> Result<Args, AllocError>
     ensures exact { IfOk result (λ args. all_placed (λ c. c.0) args ≡ map (λ x. x.at) xs.now) }
     ensures as_many { IfOk result (λ args. length args ≡ length xs.now) }
 {

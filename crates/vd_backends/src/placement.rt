@@ -5,13 +5,13 @@ ghost use Rattle.vd_backend_laws.specs.Parts.{word_in};
 use std::alloc::Global;
 use std::marker::Model;
 use vd_base::Items;
-use vd_duet::{Clear, Parts};
+use vd_duet::{Part, Parts};
 
 /// What a slot has: a register at each host of its protocol, and how many registers from there on are the slot's. These are one
 /// for a word, and for an array its size. A commitment has each of its registers by itself.
 #[derive(Drop)]
 pub struct Placement {
-    copies: Parts<Clear>,
+    copies: Parts,
     size: u32,
 }
 
@@ -27,7 +27,7 @@ impl Model for Placement {
 
 impl Placement {
     /// A word.
-    pub(crate) fn word(copies: Parts<Clear>) -> Placement
+    pub(crate) fn word(copies: Parts) -> Placement
         ensures { result ≡ word_in (in_clear copies) }
     {
         Placement { copies, size: 1 }
@@ -41,14 +41,14 @@ impl Placement {
     }
 
     /// An array.
-    pub(crate) fn array(copies: Parts<Clear>, size: u32) -> Placement
+    pub(crate) fn array(copies: Parts, size: u32) -> Placement
         ensures { result ≡ record { at = in_clear copies; size = size } }
     {
         Placement { copies, size }
     }
 
     /// The register at each host.
-    pub(crate) fn parts(&self) -> &Parts<Clear>
+    pub(crate) fn parts(&self) -> &Parts
         ensures { in_clear result.now ≡ self.now.at }
     {
         &self.copies

@@ -13,7 +13,7 @@ use crate::steps::{mask, part, shift_left, shift_right, turn};
 use std::alloc::{AllocError, Global};
 use vd_backend_sharing::{Pair, PartRegisters, Sharing};
 use vd_base::{HostId, Items, Op, Proto};
-use vd_duet::{Args, Backend, Clear, Duet, Parts};
+use vd_duet::{Args, Backend, Duet, Part, Parts};
 use vd_execution::{Binary, Reg};
 
 /// Two hosts that share words: a word is the exclusive or of their parts.
@@ -79,12 +79,7 @@ impl XorPair {
     }
 
     /// What the last of some gates makes, of operands at the first places.
-    pub fn circuit(
-        &self,
-        gates: &[Gate],
-        args: &Args<Clear>,
-        to: &mut Duet,
-    ) -> Result<Parts<Clear>, AllocError>
+    pub fn circuit(&self, gates: &[Gate], args: &Args, to: &mut Duet) -> Result<Parts, AllocError>
         requires known { AreKnown (self.now.0 ∷ self.now.1 ∷ []) to.old.next }
         requires room { HasCircuitRoom to.old.next }
         requires short { length gates.now ≤ 31 }
@@ -102,10 +97,10 @@ impl XorPair {
     fn of_two(
         &self,
         gates: &[Gate],
-        x: &Parts<Clear>,
-        y: &Parts<Clear>,
+        x: &Parts,
+        y: &Parts,
         to: &mut Duet,
-    ) -> Result<Parts<Clear>, AllocError>
+    ) -> Result<Parts, AllocError>
         requires known { AreKnown (self.now.0 ∷ self.now.1 ∷ []) to.old.next }
         requires room { HasCircuitRoom to.old.next }
         requires short { length gates.now ≤ 31 }
@@ -120,12 +115,7 @@ impl XorPair {
     }
 
     /// The sum, modulo 2^32, of two words.
-    pub fn add(
-        &self,
-        x: &Parts<Clear>,
-        y: &Parts<Clear>,
-        to: &mut Duet,
-    ) -> Result<Parts<Clear>, AllocError>
+    pub fn add(&self, x: &Parts, y: &Parts, to: &mut Duet) -> Result<Parts, AllocError>
         requires known { AreKnown (self.now.0 ∷ self.now.1 ∷ []) to.old.next }
         requires room { HasCircuitRoom to.old.next }
         ensures exact { IfOk result (λ z. Makes (computed self.now.0 self.now.1 op.Add (in_clear x.now ∷ in_clear y.now ∷ [])) to.old
@@ -138,12 +128,7 @@ impl XorPair {
     }
 
     /// The difference, modulo 2^32, of two words.
-    pub fn sub(
-        &self,
-        x: &Parts<Clear>,
-        y: &Parts<Clear>,
-        to: &mut Duet,
-    ) -> Result<Parts<Clear>, AllocError>
+    pub fn sub(&self, x: &Parts, y: &Parts, to: &mut Duet) -> Result<Parts, AllocError>
         requires known { AreKnown (self.now.0 ∷ self.now.1 ∷ []) to.old.next }
         requires room { HasCircuitRoom to.old.next }
         ensures exact { IfOk result (λ z. Makes (computed self.now.0 self.now.1 op.Sub (in_clear x.now ∷ in_clear y.now ∷ [])) to.old
@@ -157,7 +142,7 @@ impl XorPair {
 }
 
 /// The registers of the two parts of each operand.
-fn words_of(args: &Args<Clear>, alloc: Global) -> Result<Items<PartRegisters>, AllocError>
+fn words_of(args: &Args, alloc: Global) -> Result<Items<PartRegisters>, AllocError>
     ensures { IfOk result (λ words. words ≡ map shares_of (all_placed (λ c. c.0) args.now)) }
 {
     let mut words = Items::new(alloc);
@@ -168,11 +153,7 @@ fn words_of(args: &Args<Clear>, alloc: Global) -> Result<Items<PartRegisters>, A
 }
 
 impl Backend for XorPair {
-    type Part = Clear;
-
     ghost calls = { λ b. bit_calls b.0 b.1 };
-
-    ghost register = { λ c. c.0 };
 
     fn proto(&self) -> Proto {
         Proto::Xor(self.0, self.1)
@@ -185,46 +166,41 @@ impl Backend for XorPair {
         }
     }
 
-    fn literal(&self, word: u32, to: &mut Duet) -> Result<Parts<Clear>, AllocError> {
+    fn literal(&self, word: u32, to: &mut Duet) -> Result<Parts, AllocError> {
         let x = self.pair().literal(word, to)?;
         x.at(self.0, self.1, to.alloc())
     }
 
-    fn share(&self, from: HostId, x: Reg, to: &mut Duet) -> Result<Parts<Clear>, AllocError> {
+    fn share(&self, from: HostId, x: Reg, to: &mut Duet) -> Result<Parts, AllocError> {
         let y = self.pair().share(from, x, to)?;
         y.at(self.0, self.1, to.alloc())
     }
 
-    fn adopt(&self, x: &Parts<Clear>, to: &mut Duet) -> Result<Parts<Clear>, AllocError> {
+    fn adopt(&self, x: &Parts, to: &mut Duet) -> Result<Parts, AllocError> {
         let y = self.pair().adopt(x, to)?;
         y.at(self.0, self.1, to.alloc())
     }
 
-    fn show(&self, x: &Parts<Clear>, at: HostId, to: &mut Duet) -> Result<Clear, AllocError> {
-        Ok(Clear(self.pair().show(PartRegisters::of(x), at, to)?))
+    fn show(&self, x: &Parts, at: HostId, to: &mut Duet) -> Result<Part, AllocError> {
+        Ok(Part(self.pair().show(PartRegisters::of(x), at, to)?))
     }
 
-    fn show_all(&self, x: &Parts<Clear>, to: &mut Duet) -> Result<Parts<Clear>, AllocError> {
+    fn show_all(&self, x: &Parts, to: &mut Duet) -> Result<Parts, AllocError> {
         let y = self.pair().show_all(PartRegisters::of(x), to)?;
         y.at(self.0, self.1, to.alloc())
     }
 
-    fn keep(&self, x: &Parts<Clear>, to: &mut Duet) -> Result<Parts<Clear>, AllocError> {
+    fn keep(&self, x: &Parts, to: &mut Duet) -> Result<Parts, AllocError> {
         let y = self.pair().keep(PartRegisters::of(x), to)?;
         y.at(self.0, self.1, to.alloc())
     }
 
-    fn renew(
-        &self,
-        kept: &Parts<Clear>,
-        x: &Parts<Clear>,
-        to: &mut Duet,
-    ) -> Result<(), AllocError> {
+    fn renew(&self, kept: &Parts, x: &Parts, to: &mut Duet) -> Result<(), AllocError> {
         self.pair()
             .renew(PartRegisters::of(kept), PartRegisters::of(x), to)
     }
 
-    fn apply(&self, op: Op, args: &Args<Clear>, to: &mut Duet) -> Result<Parts<Clear>, AllocError> {
+    fn apply(&self, op: Op, args: &Args, to: &mut Duet) -> Result<Parts, AllocError> {
         let gates = bit_circuit(op, to.alloc())?;
         self.circuit(gates.as_slice(), args, to)
     }

@@ -5,7 +5,7 @@ use crate::circuits::circuit;
 use std::alloc::AllocError;
 use vd_base::{HostId, Op, Proto};
 use vd_bits::XorPair;
-use vd_duet::{Args, Backend, Clear, Duet, Parts};
+use vd_duet::{Args, Backend, Duet, Part, Parts};
 use vd_execution::Reg;
 
 /// Two hosts that share words by exclusive or, and compute by circuits.
@@ -21,11 +21,7 @@ impl CircuitPair {
 }
 
 impl Backend for CircuitPair {
-    type Part = Clear;
-
     ghost calls = { λ b. circuit_calls b.0 b.1 };
-
-    ghost register = { λ c. c.0 };
 
     fn proto(&self) -> Proto {
         Proto::Xor(self.0, self.1)
@@ -38,40 +34,35 @@ impl Backend for CircuitPair {
         }
     }
 
-    fn literal(&self, word: u32, to: &mut Duet) -> Result<Parts<Clear>, AllocError> {
+    fn literal(&self, word: u32, to: &mut Duet) -> Result<Parts, AllocError> {
         self.bits().literal(word, to)
     }
 
-    fn share(&self, from: HostId, x: Reg, to: &mut Duet) -> Result<Parts<Clear>, AllocError> {
+    fn share(&self, from: HostId, x: Reg, to: &mut Duet) -> Result<Parts, AllocError> {
         self.bits().share(from, x, to)
     }
 
-    fn adopt(&self, x: &Parts<Clear>, to: &mut Duet) -> Result<Parts<Clear>, AllocError> {
+    fn adopt(&self, x: &Parts, to: &mut Duet) -> Result<Parts, AllocError> {
         self.bits().adopt(x, to)
     }
 
-    fn show(&self, x: &Parts<Clear>, at: HostId, to: &mut Duet) -> Result<Clear, AllocError> {
+    fn show(&self, x: &Parts, at: HostId, to: &mut Duet) -> Result<Part, AllocError> {
         self.bits().show(x, at, to)
     }
 
-    fn show_all(&self, x: &Parts<Clear>, to: &mut Duet) -> Result<Parts<Clear>, AllocError> {
+    fn show_all(&self, x: &Parts, to: &mut Duet) -> Result<Parts, AllocError> {
         self.bits().show_all(x, to)
     }
 
-    fn keep(&self, x: &Parts<Clear>, to: &mut Duet) -> Result<Parts<Clear>, AllocError> {
+    fn keep(&self, x: &Parts, to: &mut Duet) -> Result<Parts, AllocError> {
         self.bits().keep(x, to)
     }
 
-    fn renew(
-        &self,
-        kept: &Parts<Clear>,
-        x: &Parts<Clear>,
-        to: &mut Duet,
-    ) -> Result<(), AllocError> {
+    fn renew(&self, kept: &Parts, x: &Parts, to: &mut Duet) -> Result<(), AllocError> {
         self.bits().renew(kept, x, to)
     }
 
-    fn apply(&self, op: Op, args: &Args<Clear>, to: &mut Duet) -> Result<Parts<Clear>, AllocError> {
+    fn apply(&self, op: Op, args: &Args, to: &mut Duet) -> Result<Parts, AllocError> {
         let gates = circuit(op, to.alloc())?;
         self.bits().circuit(gates.as_slice(), args, to)
     }

@@ -6,7 +6,7 @@ use Rattle.vd_execution.specs.declared.instructions.Line.{Line}
 use Rattle.vd_execution.specs.declared.instructions.Reg.{Reg}
 use Rattle.vd_duet.specs.Builder.{Builder, TakesAtMost}
 use Rattle.vd_duet.specs.Laws.{AreKnown}
-use Rattle.vd_duet.specs.declared.parts.Clear.{Clear}
+use Rattle.vd_duet.specs.declared.parts.Part.{Part}
 use Rattle.vd_duet.specs.Calls.{Places, Made, emitted, called, in_clear, hosts_of}
 use Rattle.vd_duet.proofs.Front.{emitted_append}
 use Rattle.vd_clear.specs.Copies.{each_made}
@@ -28,11 +28,11 @@ step_on f h hs xs b goal r b' is e =
     ∙ e)
 
 -- one host's step
-pub each_step : (f : HostId → List ℕ → Made Reg) (h : HostId) (hs : List HostId) (xs ys : List (HostId × Clear)) (b : Builder) (goal : Places × Builder) (r : Reg) (b' : Builder)
+pub each_step : (f : HostId → List ℕ → Made Reg) (h : HostId) (hs : List HostId) (xs ys : List (HostId × Part)) (b : Builder) (goal : Places × Builder) (r : Reg) (b' : Builder)
     → (r, b') ≡ called (f h b.next) b → ys ≡ xs ++ (h, record { 0 = r }) ∷ [] → behind (in_clear xs) (each_made f (h ∷ hs) b.next) b ≡ goal
     → behind (in_clear ys) (each_made f hs b'.next) b' ≡ goal
 each_step f h hs xs ys b goal r b' is longer e =
-    ap (λ (l : Places). behind l (each_made f hs b'.next) b') (ap in_clear longer ∙ map-append (λ (q : HostId × Clear). let p : HostId × Reg = (q.0, q.1.0) in p) xs ((h, record { 0 = r }) ∷ []))
+    ap (λ (l : Places). behind l (each_made f hs b'.next) b') (ap in_clear longer ∙ map-append (λ (q : HostId × Part). let p : HostId × Reg = (q.0, q.1.0) in p) xs ((h, record { 0 = r }) ∷ []))
     ∙ step_on f h hs (in_clear xs) b goal r b' is e
 
 made_hosts : (f : HostId → List ℕ → Made Reg) (hs : List HostId) (next : List ℕ) → hosts_of (each_made f hs next).given ≡ hs
@@ -44,11 +44,11 @@ pub each_hosts : (f : HostId → List ℕ → Made Reg) (hs : List HostId) (x : 
 each_hosts f hs x b b' e = ap (λ (z : Places × Builder). hosts_of z.0) e ∙ made_hosts f hs b.next
 
 -- what the loop over hosts keeps
-abbrev pub EachSoFar : (HostId → List ℕ → Made Reg) → List HostId → ℕ → List (HostId × Clear) → List ℕ → Builder → Places × Builder → Type 0
+abbrev pub EachSoFar : (HostId → List ℕ → Made Reg) → List HostId → ℕ → List (HostId × Part) → List ℕ → Builder → Places × Builder → Type 0
 EachSoFar f hs i xs next b goal =
     (behind (in_clear xs) (each_made f (drop i hs) b.next) b ≡ goal) × TakesAtMost (8 * i) next b.next × AreKnown (drop i hs) next
 
-pub each_turn : (f : HostId → List ℕ → Made Reg) (hs : List HostId) (i : ℕ) (d : HostId) (xs ys : List (HostId × Clear)) (next : List ℕ) (b : Builder) (goal : Places × Builder) (r : Reg) (b' : Builder)
+pub each_turn : (f : HostId → List ℕ → Made Reg) (hs : List HostId) (i : ℕ) (d : HostId) (xs ys : List (HostId × Part)) (next : List ℕ) (b : Builder) (goal : Places × Builder) (r : Reg) (b' : Builder)
     → i < length hs → (r, b') ≡ called (f (get_or hs i d) b.next) b → TakesAtMost 8 b.next b'.next → ys ≡ xs ++ (get_or hs i d, record { 0 = r }) ∷ []
     → EachSoFar f hs i xs next b goal → EachSoFar f hs (i + 1) ys next b' goal
 each_turn f hs i d xs ys next b goal r b' low is few longer (e, taken, known) =
@@ -58,7 +58,7 @@ each_turn f hs i d xs ys next b goal r b' low is few longer (e, taken, known) =
       (subst (λ (l : List HostId). AreKnown l next) more known).1,
     )
 
-pub each_ended : (f : HostId → List ℕ → Made Reg) (hs : List HostId) (i : ℕ) (xs : List (HostId × Clear)) (next : List ℕ) (b start : Builder)
+pub each_ended : (f : HostId → List ℕ → Made Reg) (hs : List HostId) (i : ℕ) (xs : List (HostId × Part)) (next : List ℕ) (b start : Builder)
     → drop i hs ≡ [] → EachSoFar f hs i xs next b (called (each_made f hs start.next) start) → hosts_of (in_clear xs) ≡ hs
 each_ended f hs i xs next b start none so_far =
     each_hosts f hs (in_clear xs) start b

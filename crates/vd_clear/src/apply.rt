@@ -7,12 +7,12 @@ ghost use Rattle.vd_clear.specs.Copies.{applied_at, operated, first_of, after_fi
 use crate::each::Step;
 use std::alloc::AllocError;
 use vd_base::{HostId, Op};
-use vd_duet::{Args, Clear, Duet, register_at};
+use vd_duet::{Args, Duet, Part, register_at};
 use vd_execution::{Act, Action, Binary, Reg};
 
 /// An operation on the copies that a host has of the operands.
 #[derive(Drop)]
-pub(crate) struct Apply<'a>(pub(crate) Op, pub(crate) &'a Args<Clear>);
+pub(crate) struct Apply<'a>(pub(crate) Op, pub(crate) &'a Args);
 
 impl<'a> Step for Apply<'a> {
     ghost made = { λ s. applied_at s.0 (all_placed (λ c. c.0) s.1.now) };
@@ -32,7 +32,7 @@ struct Operands {
     third: Reg,
 }
 
-fn registers_of(args: &Args<Clear>, host: HostId) -> Operands
+fn registers_of(args: &Args, host: HostId) -> Operands
     ensures first { result.first ≡ first_of (all_placed (λ c. c.0) args.now) host }
     ensures second { result.second ≡ first_of (after_first (all_placed (λ c. c.0) args.now)) host }
     ensures third { result.third ≡ first_of (after_first (after_first (all_placed (λ c. c.0) args.now))) host }

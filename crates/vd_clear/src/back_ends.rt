@@ -12,7 +12,7 @@ use crate::show::show;
 use crate::steps::{Adopt, Keep, Literal, Share, Show};
 use std::alloc::{AllocError, Global};
 use vd_base::{HostId, HostSet, Items, Op, Proto};
-use vd_duet::{Args, Backend, Clear, Duet, Parts, register_at};
+use vd_duet::{Args, Backend, Duet, Part, Parts, register_at};
 use vd_execution::{Act, Action, Reg};
 
 /// One host that holds words in clear.
@@ -24,7 +24,7 @@ pub struct LocalHost(pub HostId);
 pub struct Replica(pub HostSet);
 
 /// Writes `x` over the copies of `kept`.
-fn renew(kept: &Parts<Clear>, x: &Parts<Clear>, to: &mut Duet) -> Result<(), AllocError>
+fn renew(kept: &Parts, x: &Parts, to: &mut Duet) -> Result<(), AllocError>
     ensures { OnOk result (to.new ≡ appended (renewed (in_clear kept.now) (in_clear x.now)) to.old) }
 {
     for part in kept.as_slice() {
@@ -35,11 +35,7 @@ fn renew(kept: &Parts<Clear>, x: &Parts<Clear>, to: &mut Duet) -> Result<(), All
 }
 
 impl Backend for LocalHost {
-    type Part = Clear;
-
     ghost calls = { λ b. clear_calls (proto.Local b.0) };
-
-    ghost register = { λ c. c.0 };
 
     fn proto(&self) -> Proto {
         Proto::Local(self.0)
@@ -49,50 +45,41 @@ impl Backend for LocalHost {
         true
     }
 
-    fn literal(&self, word: u32, to: &mut Duet) -> Result<Parts<Clear>, AllocError> {
+    fn literal(&self, word: u32, to: &mut Duet) -> Result<Parts, AllocError> {
         each_host(&[self.0], &Literal(word), to)
     }
 
-    fn share(&self, from: HostId, x: Reg, to: &mut Duet) -> Result<Parts<Clear>, AllocError> {
+    fn share(&self, from: HostId, x: Reg, to: &mut Duet) -> Result<Parts, AllocError> {
         each_host(&[self.0], &Share(from, x), to)
     }
 
-    fn adopt(&self, x: &Parts<Clear>, to: &mut Duet) -> Result<Parts<Clear>, AllocError> {
+    fn adopt(&self, x: &Parts, to: &mut Duet) -> Result<Parts, AllocError> {
         each_host(&[self.0], &Adopt(x), to)
     }
 
-    fn show(&self, x: &Parts<Clear>, at: HostId, to: &mut Duet) -> Result<Clear, AllocError> {
-        Ok(Clear(show(x, at, to)?))
+    fn show(&self, x: &Parts, at: HostId, to: &mut Duet) -> Result<Part, AllocError> {
+        Ok(Part(show(x, at, to)?))
     }
 
-    fn show_all(&self, x: &Parts<Clear>, to: &mut Duet) -> Result<Parts<Clear>, AllocError> {
+    fn show_all(&self, x: &Parts, to: &mut Duet) -> Result<Parts, AllocError> {
         Ok(Items::from_slice(to.alloc(), x.as_slice())?)
     }
 
-    fn keep(&self, x: &Parts<Clear>, to: &mut Duet) -> Result<Parts<Clear>, AllocError> {
+    fn keep(&self, x: &Parts, to: &mut Duet) -> Result<Parts, AllocError> {
         each_host(&[self.0], &Keep(x), to)
     }
 
-    fn renew(
-        &self,
-        kept: &Parts<Clear>,
-        x: &Parts<Clear>,
-        to: &mut Duet,
-    ) -> Result<(), AllocError> {
+    fn renew(&self, kept: &Parts, x: &Parts, to: &mut Duet) -> Result<(), AllocError> {
         renew(kept, x, to)
     }
 
-    fn apply(&self, op: Op, args: &Args<Clear>, to: &mut Duet) -> Result<Parts<Clear>, AllocError> {
+    fn apply(&self, op: Op, args: &Args, to: &mut Duet) -> Result<Parts, AllocError> {
         each_host(&[self.0], &Apply(op, args), to)
     }
 }
 
 impl Backend for Replica {
-    type Part = Clear;
-
     ghost calls = { λ b. clear_calls (proto.Rep b.0) };
-
-    ghost register = { λ c. c.0 };
 
     fn proto(&self) -> Proto {
         Proto::Rep(self.0)
@@ -102,44 +89,39 @@ impl Backend for Replica {
         true
     }
 
-    fn literal(&self, word: u32, to: &mut Duet) -> Result<Parts<Clear>, AllocError> {
+    fn literal(&self, word: u32, to: &mut Duet) -> Result<Parts, AllocError> {
         let hosts = self.0.members(to.alloc())?;
         each_host(hosts.as_slice(), &Literal(word), to)
     }
 
-    fn share(&self, from: HostId, x: Reg, to: &mut Duet) -> Result<Parts<Clear>, AllocError> {
+    fn share(&self, from: HostId, x: Reg, to: &mut Duet) -> Result<Parts, AllocError> {
         let hosts = self.0.members(to.alloc())?;
         each_host(hosts.as_slice(), &Share(from, x), to)
     }
 
-    fn adopt(&self, x: &Parts<Clear>, to: &mut Duet) -> Result<Parts<Clear>, AllocError> {
+    fn adopt(&self, x: &Parts, to: &mut Duet) -> Result<Parts, AllocError> {
         let hosts = self.0.members(to.alloc())?;
         each_host(hosts.as_slice(), &Adopt(x), to)
     }
 
-    fn show(&self, x: &Parts<Clear>, at: HostId, to: &mut Duet) -> Result<Clear, AllocError> {
-        Ok(Clear(show(x, at, to)?))
+    fn show(&self, x: &Parts, at: HostId, to: &mut Duet) -> Result<Part, AllocError> {
+        Ok(Part(show(x, at, to)?))
     }
 
-    fn show_all(&self, x: &Parts<Clear>, to: &mut Duet) -> Result<Parts<Clear>, AllocError> {
+    fn show_all(&self, x: &Parts, to: &mut Duet) -> Result<Parts, AllocError> {
         Ok(Items::from_slice(to.alloc(), x.as_slice())?)
     }
 
-    fn keep(&self, x: &Parts<Clear>, to: &mut Duet) -> Result<Parts<Clear>, AllocError> {
+    fn keep(&self, x: &Parts, to: &mut Duet) -> Result<Parts, AllocError> {
         let hosts = self.0.members(to.alloc())?;
         each_host(hosts.as_slice(), &Keep(x), to)
     }
 
-    fn renew(
-        &self,
-        kept: &Parts<Clear>,
-        x: &Parts<Clear>,
-        to: &mut Duet,
-    ) -> Result<(), AllocError> {
+    fn renew(&self, kept: &Parts, x: &Parts, to: &mut Duet) -> Result<(), AllocError> {
         renew(kept, x, to)
     }
 
-    fn apply(&self, op: Op, args: &Args<Clear>, to: &mut Duet) -> Result<Parts<Clear>, AllocError> {
+    fn apply(&self, op: Op, args: &Args, to: &mut Duet) -> Result<Parts, AllocError> {
         let hosts = self.0.members(to.alloc())?;
         each_host(hosts.as_slice(), &Apply(op, args), to)
     }
@@ -147,12 +129,7 @@ impl Backend for Replica {
 
 /// The move of a word from copies at one set of hosts to copies at another. `x` has a part for exactly each host of `from`.
 #[tactic(auto, using(crate::proofs::Members::few_parts))]
-pub fn spread(
-    x: &Parts<Clear>,
-    from: HostSet,
-    to: HostSet,
-    code: &mut Duet,
-) -> Result<Parts<Clear>, AllocError>
+pub fn spread(x: &Parts, from: HostSet, to: HostSet, code: &mut Duet) -> Result<Parts, AllocError>
     requires known { AreKnown (holders (proto.Rep to)) code.old.next }
     requires room { HasRoom 0 code.old.next }
     requires placed { hosts_of (in_clear x.now) ≡ holders (proto.Rep from) }

@@ -8,7 +8,7 @@ ghost use Rattle.vd_clear.specs.Copies.{each_made};
 
 use std::alloc::AllocError;
 use vd_base::{HostId, Items};
-use vd_duet::{Clear, Duet, Parts};
+use vd_duet::{Duet, Part, Parts};
 use vd_execution::Reg;
 
 /// What each of some hosts does to have its copy of a word.
@@ -28,11 +28,7 @@ pub trait Step {
 
 /// Each of these hosts takes the step, in order.
 #[tactic(auto, using(crate::proofs::Loops::behind_end))]
-pub fn each_host<S: Step>(
-    hosts: &[HostId],
-    step: &S,
-    to: &mut Duet,
-) -> Result<Parts<Clear>, AllocError>
+pub fn each_host<S: Step>(hosts: &[HostId], step: &S, to: &mut Duet) -> Result<Parts, AllocError>
     requires small { S.is_small step.now }
     requires hosts { length hosts.now ≤ 8 }
     requires known { AreKnown hosts.now to.old.next }
@@ -44,7 +40,7 @@ pub fn each_host<S: Step>(
     let mut parts = Items::new(to.alloc());
     for host in hosts {
         let at = step.at(*host, to)?;
-        parts.push((*host, Clear(at)))?;
+        parts.push((*host, Part(at)))?;
     }
     Ok(parts)
 }

@@ -6,11 +6,11 @@ ghost use Rattle.vd_clear.specs.Copies.{told, compared, first_register, shown};
 
 use std::alloc::AllocError;
 use vd_base::{HostId, Items};
-use vd_duet::{Clear, Duet, Parts, register_at};
+use vd_duet::{Duet, Part, Parts, register_at};
 use vd_execution::{Act, Action, Reg};
 
 /// Whether a host has a part.
-fn has_part(x: &Parts<Clear>, host: HostId) -> bool
+fn has_part(x: &Parts, host: HostId) -> bool
     ensures { result ≡ is_among (hosts_of (in_clear x.now)) host.0 }
 {
     for part in x.as_slice() {
@@ -22,7 +22,7 @@ fn has_part(x: &Parts<Clear>, host: HostId) -> bool
 }
 
 /// Each host tells its copy to a host.
-fn tell(x: &Parts<Clear>, host: HostId, to: &mut Duet) -> Result<Items<Reg>, AllocError>
+fn tell(x: &Parts, host: HostId, to: &mut Duet) -> Result<Items<Reg>, AllocError>
     requires few { length x.now ≤ 8 }
     requires known { host.0 < length to.old.next }
     requires room { slice_index to.old.next host.0 + 8 < 2 ^ 32 }
@@ -64,7 +64,7 @@ fn first_of(registers: &[Reg]) -> Reg
 
 /// The move of a word to one host: its own copy, or those of all, which it compares.
 #[tactic(auto, using(crate::proofs::Shows::shown_own))]
-pub(crate) fn show(x: &Parts<Clear>, host: HostId, to: &mut Duet) -> Result<Reg, AllocError>
+pub(crate) fn show(x: &Parts, host: HostId, to: &mut Duet) -> Result<Reg, AllocError>
     requires few { length x.now ≤ 8 }
     requires known { host.0 < length to.old.next }
     requires room { slice_index to.old.next host.0 + 8 < 2 ^ 32 }

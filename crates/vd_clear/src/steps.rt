@@ -7,7 +7,7 @@ use crate::each::Step;
 use crate::show::show;
 use std::alloc::AllocError;
 use vd_base::{HostId, Items};
-use vd_duet::{Clear, Duet, Parts, register_at};
+use vd_duet::{Duet, Part, Parts, register_at};
 use vd_execution::{Act, Action, Reg};
 
 /// A number.
@@ -49,7 +49,7 @@ impl Step for Share {
 
 /// The copy that a host has already.
 #[derive(Drop)]
-pub(crate) struct Adopt<'a>(pub(crate) &'a Parts<Clear>);
+pub(crate) struct Adopt<'a>(pub(crate) &'a Parts);
 
 impl<'a> Step for Adopt<'a> {
     ghost made = { λ s. adopted (in_clear s.0.now) };
@@ -63,7 +63,7 @@ impl<'a> Step for Adopt<'a> {
 
 /// A copy in a fresh register.
 #[derive(Drop)]
-pub(crate) struct Keep<'a>(pub(crate) &'a Parts<Clear>);
+pub(crate) struct Keep<'a>(pub(crate) &'a Parts);
 
 impl<'a> Step for Keep<'a> {
     ghost made = { λ s. kept_by (in_clear s.0.now) };
@@ -79,7 +79,7 @@ impl<'a> Step for Keep<'a> {
 
 /// The copy that a host has already, or that all others tell it.
 #[derive(Drop)]
-pub(crate) struct Show<'a>(pub(crate) &'a Parts<Clear>);
+pub(crate) struct Show<'a>(pub(crate) &'a Parts);
 
 impl<'a> Step for Show<'a> {
     ghost made = { λ s. shown (in_clear s.0.now) };

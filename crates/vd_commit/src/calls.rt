@@ -7,7 +7,7 @@ ghost use Rattle.vd_commit.specs.Commit.{eight as eight_of, own_each, same_each,
 use crate::ends::{Held, Seen};
 use std::alloc::AllocError;
 use vd_base::{HostId, Items};
-use vd_duet::{Clear, Duet};
+use vd_duet::{Duet, Part};
 use vd_execution::{Act, Action, Reg};
 
 /// Eight registers from one on.
@@ -69,7 +69,7 @@ pub fn reveal(
     held: Held,
     seen: Seen,
     code: &mut Duet,
-) -> Result<Clear, AllocError>
+) -> Result<Part, AllocError>
     requires to { to.0 < length code.old.next }
     requires room { HasRoom 0 code.old.next }
     requires nonce { held.nonce.0 < 4000000000 }
@@ -88,7 +88,7 @@ pub fn reveal(
     )?;
     code.add(Act::Do(to, Action::Hash(digest, nonce, value)))?;
     check(to, digest, seen, code)?;
-    Ok(Clear(value))
+    Ok(Part(value))
 }
 
 /// A host takes an own word into each register.

@@ -10,7 +10,7 @@ ghost use Rattle.vd_convert.specs.Convert.{masked_parts, drawn, finishing, finis
 use std::alloc::AllocError;
 use vd_backend_sharing::{Pair, PartRegisters, Sharing, tell};
 use vd_bits::XorPair;
-use vd_duet::{Clear, Duet, Parts};
+use vd_duet::{Duet, Part, Parts};
 use vd_execution::{Act, Action, Binary, Reg};
 use vd_words::AddPair;
 
@@ -22,7 +22,7 @@ struct Two {
 }
 
 /// A word that is shared by sums becomes one that is shared by exclusive or: each part is shared, and the two are added.
-pub fn to_xor(hosts: &AddPair, x: &Parts<Clear>, to: &mut Duet) -> Result<Parts<Clear>, AllocError>
+pub fn to_xor(hosts: &AddPair, x: &Parts, to: &mut Duet) -> Result<Parts, AllocError>
     requires known { AreKnown (hosts.now.0 ∷ hosts.now.1 ∷ []) to.old.next }
     requires room { HasRoom 0 to.old.next }
     ensures exact { IfOk result (λ y. Makes (to_xor_made hosts.now.0 hosts.now.1 (in_clear x.now)) to.old (in_clear y) to.new) }
@@ -38,7 +38,7 @@ pub fn to_xor(hosts: &AddPair, x: &Parts<Clear>, to: &mut Duet) -> Result<Parts<
 
 /// A word that is shared by exclusive or becomes one that is shared by sums, by a dealt pair: its word is taken off, what is
 /// left is opened, and the first host adds that to its part of the pair.
-pub fn to_add(hosts: &XorPair, x: &Parts<Clear>, to: &mut Duet) -> Result<Parts<Clear>, AllocError>
+pub fn to_add(hosts: &XorPair, x: &Parts, to: &mut Duet) -> Result<Parts, AllocError>
     requires known { AreKnown (hosts.now.0 ∷ hosts.now.1 ∷ []) to.old.next }
     requires room { HasRoom 0 to.old.next }
     ensures exact { IfOk result (λ y. Makes (to_add_made hosts.now.0 hosts.now.1 (in_clear x.now)) to.old (in_clear y) to.new) }

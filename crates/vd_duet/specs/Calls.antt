@@ -10,7 +10,7 @@ use Rattle.vd_execution.specs.Acts.{lines_of}
 use Rattle.vd_execution.specs.Gadgets.{Gadget, acts_of_gadgets}
 use Rattle.vd_execution.specs.Text.{register}
 use Rattle.vd_duet.specs.Builder.{Builder}
-use Rattle.vd_duet.specs.declared.parts.Clear.{Clear}
+use Rattle.vd_duet.specs.declared.parts.Part.{Part}
 
 -- hosts, each with a register
 abbrev pub Places : Type 0
@@ -23,7 +23,7 @@ placed register x = map (λ q. (q.0, register q.1)) x
 abbrev pub all_placed : {P : Type 0} → (P → Reg) → List (List (HostId × P)) → List Places
 all_placed register xs = map (placed register) xs
 
-abbrev pub in_clear : List (HostId × Clear) → Places
+abbrev pub in_clear : List (HostId × Part) → Places
 in_clear x = placed (λ c. c.0) x
 
 abbrev pub hosts_of : Places → List HostId

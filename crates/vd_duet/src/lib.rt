@@ -7,4 +7,4 @@ mod parts;
 
 pub use backend::Backend;
 pub use duet::Duet;
-pub use parts::{Args, Clear, Parts, register_at};
+pub use parts::{Args, Part, Parts, register_at};

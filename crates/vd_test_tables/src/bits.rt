@@ -14,15 +14,10 @@ use vd_base::{HostId, Items, Op};
 use vd_bits::XorPair;
 use vd_circuit::CircuitPair;
 use vd_clear::LocalHost;
-use vd_duet::{Args, Backend, Clear, Duet, Parts};
+use vd_duet::{Args, Backend, Duet, Part, Parts};
 
 /// A number of one of the two hosts, shared.
-fn shared<B: Backend>(
-    pair: &B,
-    host: HostId,
-    word: u32,
-    to: &mut Duet,
-) -> Result<Parts<B::Part>, AllocError>
+fn shared<B: Backend>(pair: &B, host: HostId, word: u32, to: &mut Duet) -> Result<Parts, AllocError>
     requires known { AreKnown (holders (B.calls pair.now).proto) to.old.next }
     requires host { host.0 < length to.old.next }
     requires room { HasRoom 4096 to.old.next }
@@ -33,7 +28,7 @@ fn shared<B: Backend>(
 }
 
 /// A number of host 0 and one of host 1, shared.
-fn operands<B: Backend>(pair: &B, to: &mut Duet) -> Result<Args<B::Part>, AllocError>
+fn operands<B: Backend>(pair: &B, to: &mut Duet) -> Result<Args, AllocError>
     requires known { AreKnown (holders (B.calls pair.now).proto) to.old.next }
     requires hosts { length to.old.next ≡ 2 }
     requires room { HasRoom 16384 to.old.next }
@@ -49,7 +44,7 @@ fn operands<B: Backend>(pair: &B, to: &mut Duet) -> Result<Args<B::Part>, AllocE
 }
 
 /// What an operation gives of two numbers, shown to host 1.
-fn shown<B: Backend>(pair: &B, op: Op, to: &mut Duet) -> Result<Clear, AllocError>
+fn shown<B: Backend>(pair: &B, op: Op, to: &mut Duet) -> Result<Part, AllocError>
     requires known { AreKnown (holders (B.calls pair.now).proto) to.old.next }
     requires hosts { length to.old.next ≡ 2 }
     requires room { HasRoom 32768 to.old.next }
@@ -82,7 +77,7 @@ fn print_order<W: Write>(to: &mut W, alloc: Global) -> io::Result<()> {
 }
 
 /// A choice and two numbers, shared.
-fn choice(pair: &CircuitPair, to: &mut Duet) -> Result<Args<Clear>, AllocError>
+fn choice(pair: &CircuitPair, to: &mut Duet) -> Result<Args, AllocError>
     requires known { AreKnown (holders (circuit_calls pair.now.0 pair.now.1).proto) to.old.next }
     requires hosts { length to.old.next ≡ 2 }
     requires room { HasRoom 16384 to.old.next }
@@ -99,7 +94,7 @@ fn choice(pair: &CircuitPair, to: &mut Duet) -> Result<Args<Clear>, AllocError>
     Ok(operands)
 }
 
-fn chosen(to: &mut Duet) -> Result<Clear, AllocError>
+fn chosen(to: &mut Duet) -> Result<Part, AllocError>
     requires hosts { length to.old.next ≡ 2 }
     requires room { HasRoom 32768 to.old.next }
 {

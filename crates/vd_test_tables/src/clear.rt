@@ -2,7 +2,7 @@
 
 ghost use Rattle.std.specs.Prelude.{◌≡◌, ◌<◌, IfOk, OnOk, length, replicate};
 ghost use Rattle.vd_duet.specs.Builder.{HasRoom, TakesAtMost};
-ghost use Rattle.vd_duet.specs.Calls.{hosts_of, placed};
+ghost use Rattle.vd_duet.specs.Calls.{hosts_of, in_clear};
 ghost use Rattle.vd_base.specs.Holders.{holders};
 ghost use Rattle.vd_duet.specs.Laws.{AreKnown};
 
@@ -11,13 +11,13 @@ use std::alloc::{AllocError, Global};
 use std::io::{self, Write};
 use vd_base::{HostId, HostSet, Items, Op};
 use vd_clear::{LocalHost, Replica, spread};
-use vd_duet::{Backend, Clear, Duet, Parts};
+use vd_duet::{Backend, Duet, Part, Parts};
 
 /// A number that is kept, and written over by itself.
-fn kept<B: Backend>(back_end: &B, to: &mut Duet) -> Result<Parts<B::Part>, AllocError>
+fn kept<B: Backend>(back_end: &B, to: &mut Duet) -> Result<Parts, AllocError>
     requires known { AreKnown (holders (B.calls back_end.now).proto) to.old.next }
     requires room { HasRoom 8192 to.old.next }
-    ensures hosts { IfOk result (λ x. hosts_of (placed B.register x) ≡ holders (B.calls back_end.now).proto) }
+    ensures hosts { IfOk result (λ x. hosts_of (in_clear x) ≡ holders (B.calls back_end.now).proto) }
     ensures few { OnOk result (TakesAtMost 4096 to.old.next to.new.next) }
 {
     let word = back_end.literal(7, to)?;
@@ -26,7 +26,7 @@ fn kept<B: Backend>(back_end: &B, to: &mut Duet) -> Result<Parts<B::Part>, Alloc
     Ok(kept)
 }
 
-fn shown(to: &mut Duet) -> Result<Clear, AllocError>
+fn shown(to: &mut Duet) -> Result<Part, AllocError>
     requires hosts { to.old.next ≡ replicate 3 0 }
 {
     let replica = Replica(HostSet { bits: 0b101 });
@@ -41,7 +41,7 @@ fn print_compared<W: Write>(to: &mut W, alloc: Global) -> io::Result<()> {
     print_code(to, "copies are compared", duet.lines(), at.0)
 }
 
-fn moved(to: &mut Duet) -> Result<Parts<Clear>, AllocError>
+fn moved(to: &mut Duet) -> Result<Parts, AllocError>
     requires hosts { length to.old.next ≡ 3 }
     requires room { HasRoom 16384 to.old.next }
 {

@@ -1,11 +1,11 @@
 //! Where an answer stands, and how code is printed.
 
 use std::io::{self, Write};
-use vd_duet::{Clear, Parts};
+use vd_duet::{Part, Parts};
 use vd_execution::{Line, Reg};
 
 /// The register of the first part, or register 0.
-pub(crate) fn first_of(x: &Parts<Clear>) -> Reg {
+pub(crate) fn first_of(x: &Parts) -> Reg {
     match x.as_slice() {
         [part, ..] => part.1.0,
         [] => Reg(0),

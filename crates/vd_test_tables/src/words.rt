@@ -8,10 +8,10 @@ use std::alloc::{AllocError, Global};
 use std::io::{self, Write};
 use vd_base::{HostId, Items, Op};
 use vd_clear::LocalHost;
-use vd_duet::{Backend, Clear, Duet};
+use vd_duet::{Backend, Duet, Part};
 use vd_words::AddPair;
 
-fn multiplied(to: &mut Duet) -> Result<Clear, AllocError>
+fn multiplied(to: &mut Duet) -> Result<Part, AllocError>
     requires hosts { length to.old.next ≡ 2 }
     requires room { HasRoom 32768 to.old.next }
 {

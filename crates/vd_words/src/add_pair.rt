@@ -9,7 +9,7 @@ ghost use Rattle.vd_words.specs.AddCalls.{add_calls};
 use std::alloc::AllocError;
 use vd_backend_sharing::{Pair, PartRegisters, Sharing};
 use vd_base::{HostId, Op, Proto};
-use vd_duet::{Args, Backend, Clear, Duet, Parts};
+use vd_duet::{Args, Backend, Duet, Part, Parts};
 use vd_execution::{Binary, Reg};
 
 /// Two hosts that share words: a word is the sum, modulo 2^32, of their parts.
@@ -35,7 +35,7 @@ impl AddPair {
 }
 
 /// The first operand.
-fn first(args: &Args<Clear>) -> PartRegisters
+fn first(args: &Args) -> PartRegisters
     ensures { result ≡ operand (all_placed (λ c. c.0) args.now) 0 }
 {
     match args.as_slice() {
@@ -45,7 +45,7 @@ fn first(args: &Args<Clear>) -> PartRegisters
 }
 
 /// The second operand.
-fn second(args: &Args<Clear>) -> PartRegisters
+fn second(args: &Args) -> PartRegisters
     ensures { result ≡ operand (all_placed (λ c. c.0) args.now) 1 }
 {
     match args.as_slice() {
@@ -55,11 +55,7 @@ fn second(args: &Args<Clear>) -> PartRegisters
 }
 
 impl Backend for AddPair {
-    type Part = Clear;
-
     ghost calls = { λ b. add_calls b.0 b.1 };
-
-    ghost register = { λ c. c.0 };
 
     fn proto(&self) -> Proto {
         Proto::Add(self.0, self.1)
@@ -72,46 +68,41 @@ impl Backend for AddPair {
         }
     }
 
-    fn literal(&self, word: u32, to: &mut Duet) -> Result<Parts<Clear>, AllocError> {
+    fn literal(&self, word: u32, to: &mut Duet) -> Result<Parts, AllocError> {
         let x = self.pair().literal(word, to)?;
         x.at(self.0, self.1, to.alloc())
     }
 
-    fn share(&self, from: HostId, x: Reg, to: &mut Duet) -> Result<Parts<Clear>, AllocError> {
+    fn share(&self, from: HostId, x: Reg, to: &mut Duet) -> Result<Parts, AllocError> {
         let y = self.pair().share(from, x, to)?;
         y.at(self.0, self.1, to.alloc())
     }
 
-    fn adopt(&self, x: &Parts<Clear>, to: &mut Duet) -> Result<Parts<Clear>, AllocError> {
+    fn adopt(&self, x: &Parts, to: &mut Duet) -> Result<Parts, AllocError> {
         let y = self.pair().adopt(x, to)?;
         y.at(self.0, self.1, to.alloc())
     }
 
-    fn show(&self, x: &Parts<Clear>, at: HostId, to: &mut Duet) -> Result<Clear, AllocError> {
-        Ok(Clear(self.pair().show(PartRegisters::of(x), at, to)?))
+    fn show(&self, x: &Parts, at: HostId, to: &mut Duet) -> Result<Part, AllocError> {
+        Ok(Part(self.pair().show(PartRegisters::of(x), at, to)?))
     }
 
-    fn show_all(&self, x: &Parts<Clear>, to: &mut Duet) -> Result<Parts<Clear>, AllocError> {
+    fn show_all(&self, x: &Parts, to: &mut Duet) -> Result<Parts, AllocError> {
         let y = self.pair().show_all(PartRegisters::of(x), to)?;
         y.at(self.0, self.1, to.alloc())
     }
 
-    fn keep(&self, x: &Parts<Clear>, to: &mut Duet) -> Result<Parts<Clear>, AllocError> {
+    fn keep(&self, x: &Parts, to: &mut Duet) -> Result<Parts, AllocError> {
         let y = self.pair().keep(PartRegisters::of(x), to)?;
         y.at(self.0, self.1, to.alloc())
     }
 
-    fn renew(
-        &self,
-        kept: &Parts<Clear>,
-        x: &Parts<Clear>,
-        to: &mut Duet,
-    ) -> Result<(), AllocError> {
+    fn renew(&self, kept: &Parts, x: &Parts, to: &mut Duet) -> Result<(), AllocError> {
         self.pair()
             .renew(PartRegisters::of(kept), PartRegisters::of(x), to)
     }
 
-    fn apply(&self, op: Op, args: &Args<Clear>, to: &mut Duet) -> Result<Parts<Clear>, AllocError> {
+    fn apply(&self, op: Op, args: &Args, to: &mut Duet) -> Result<Parts, AllocError> {
         let made = match op {
             Op::Add => self
                 .pair()
