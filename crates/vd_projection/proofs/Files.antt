@@ -139,12 +139,12 @@ module _ (program : NormalForm) (protocols : List Proto) (plan : Digest) (h : �
       at k has (inl lt) = takes_below hosts k lt
       at k has (inr le) = absurd (has (ended_past program protocols can.runs k le))
 
-  stands : AllCanStand hosts h code
-  stands =
+  pub code_stands : AllCanStand hosts h code
+  code_stands =
       let below = plan_below program (proto_in protocols) can.runs.made (proto_over program protocols can.runs.made (runnable_over program protocols can.runs.made can.runs.runnable)) in
       plan_stands hosts can.runs.made.limits.hosts h below.0 (parts_below hosts) (λ k t. below_takes hosts k t) gadgets below.1 tidy small.plan (plan_within (parts_below hosts) gadgets all_declared)
 
-  few_steps : weight code ≤ 4294967295
+  pub few_steps : weight code ≤ 4294967295
   few_steps =
       let b = block_of program.body in
       let one = plan_weighs h 1 gadgets in
@@ -168,12 +168,12 @@ module _ (program : NormalForm) (protocols : List Proto) (plan : Digest) (h : �
           few = can.runs.made.limits.hosts;
           me = can.declared;
           plan = can.digest;
-          lines = text_leads hosts h code stands;
+          lines = text_leads hosts h code code_stands;
         };
-        within = all_within hosts (host h) (text code []) code loaded.nested (none_broken hosts h code stands loaded.in_range.blocks) few_steps;
+        within = all_within hosts (host h) (text code []) code loaded.nested (none_broken hosts h code code_stands loaded.in_range.blocks) few_steps;
       }
 
-  few_lines : code_bulk code ≤ 2043 * 512
+  pub few_lines : code_bulk code ≤ 2043 * 512
   few_lines =
       let same : counted (block_of program.body) ≡ statement_count program.body = sym (ap sum (fold_each count_step program.body)) in
       bounded (code_bulk code) _ _ _ (plan_lines h gadgets tidy) small.lines_are same can.runs.made.limits.statements
@@ -183,7 +183,7 @@ module _ (program : NormalForm) (protocols : List Proto) (plan : Digest) (h : �
 
   text_is_short : length (flat_map name_field program.hosts) ≤ 65536 → length (program_text (with_code (text code []))) ≤ 67108864
   text_is_short names =
-      let lines = code_short hosts h code stands in
+      let lines = code_short hosts h code code_stands in
       let le = file_short (with_code (text code [])) (51 * (2043 * 512)) can.digest.0 (own_word h hosts can.declared can.runs.made.limits.hosts) names (bounded _ _ lines few_lines) in
       within_file _ le
     where
