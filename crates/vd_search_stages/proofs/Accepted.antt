@@ -19,7 +19,7 @@ use Rattle.vd_bound.proofs.Front.{sound_also, sound_is_yes, yes_is_sound}
 use Rattle.vd_search.specs.Answers.{IsLeast}
 use Rattle.vd_space.specs.declared.problem.Problem.{Problem}
 use Rattle.vd_space.specs.Bounds.{high}
-use Rattle.vd_space.specs.Validity.{is_valid, protocols}
+use Rattle.vd_space.specs.Validity.{is_bare, is_valid, protocols}
 use Rattle.vd_space.specs.Network.{network_high, network_tree}
 use Rattle.vd_space.specs.Costs.{cost}
 use Rattle.vd_space.specs.Spaces.{IsProblem, tree_of}
@@ -29,7 +29,7 @@ use Rattle.vd_search_stages.specs.Choices.{IsChosen, needed}
 use Rattle.vd_search_stages.specs.Confirming.{confirmed}
 use Rattle.vd_search_stages.specs.Naming.{NamesUse}
 use Rattle.vd_search_stages.specs.Selecting.{IsAccepted, IsOver, Selects, refuted}
-use Rattle.vd_search_stages.specs.SoFar.{is_bare, so_far_tree}
+use Rattle.vd_search_stages.specs.SoFar.{so_far_tree}
 use Rattle.vd_search_stages.specs.declared.selecting.Selection.TheVariants.{Found, NoAssignment}
 use Rattle.vd_search_stages.proofs.SoFar.{full_tree, full_where}
 

@@ -25,7 +25,7 @@ use Rattle.vd_space.specs.Bounds.{high}
 use Rattle.vd_space.specs.Sizes.{IsWithinLimits}
 use Rattle.vd_space.specs.Spaces.{IsProblem, tree_of}
 use Rattle.vd_space.specs.Usual.{usual}
-use Rattle.vd_space.specs.Validity.{protocols}
+use Rattle.vd_space.specs.Validity.{is_bare, is_valid_so_far, protocols}
 use Rattle.vd_space.proofs.Front.{tree_bounded}
 use Rattle.vd_space.specs.Arcs.{arcs}
 use Rattle.vd_space.specs.Network.{network_tree}
@@ -33,7 +33,7 @@ use Rattle.vd_space.proofs.Front.{network_tree_bounded}
 use Rattle.vd_cost_network_prefix.specs.declared.made.NetworkTables.{NetworkTables}
 use Rattle.vd_search_stages.specs.Confirming.{Confirms, tree_by}
 use Rattle.vd_search_stages.specs.Naming.{NamesUse}
-use Rattle.vd_search_stages.specs.SoFar.{is_bare, is_valid_so_far, so_far_tree, so_far_under}
+use Rattle.vd_search_stages.specs.SoFar.{so_far_tree, so_far_under}
 use Rattle.vd_search_stages.specs.Selecting.{Selects, refuted}
 use Rattle.vd_search_stages.specs.declared.selecting.Selection.TheVariants.{Found, NoAssignment}
 use Rattle.vd_search_stages.proofs.Accepted.{found_selects, none_selects}

@@ -5,10 +5,10 @@ use Rattle.vd_search.specs.Answers.{nat_or_zero}
 use Rattle.vd_search_tree.specs.declared.search_certificate.certificate.Certificate.{Certificate}
 use Rattle.vd_space.specs.declared.problem.Problem.{Problem}
 use Rattle.vd_space.specs.Costs.{cost}
-use Rattle.vd_space.specs.Validity.{protocol}
+use Rattle.vd_space.specs.Validity.{is_bare, protocol}
 use Rattle.vd_search_stages.specs.Optimum.{IsOptimum, in_form, optimum_of}
 use Rattle.vd_search_stages.specs.Selecting.{IsAccepted, Selects}
-use Rattle.vd_search_stages.specs.SoFar.{has_own_form, is_bare}
+use Rattle.vd_search_stages.specs.SoFar.{has_own_form}
 use Rattle.vd_search_stages.proofs.Accepted.{form_accepted}
 use Rattle.vd_search_stages.specs.declared.optimum.Assignment.{Assignment}
 use Rattle.vd_search_stages.specs.declared.optimum.Optimum.{Optimum}

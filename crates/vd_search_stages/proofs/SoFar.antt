@@ -17,9 +17,9 @@ use Rattle.vd_space.specs.declared.problem.Guard.{Guard}
 use Rattle.vd_space.specs.declared.problem.Index.{Index}
 use Rattle.vd_space.specs.Bounds.{high}
 use Rattle.vd_space.specs.Spaces.{IsProblem}
-use Rattle.vd_space.specs.Validity.{all_hosts, can_stand, guard_told, has_candidate, holds_at, index_told, is_told, is_valid, may_read, move, move_to_host, output_joins, protocols, stand, takes_part, use_joins}
+use Rattle.vd_space.specs.Validity.{all_hosts, can_stand, guard_told, has_candidate, holds_at, index_told, is_bare, is_told, is_valid, is_valid_so_far, may_read, move, move_to_host, output_joins, protocols, stand, stand_so_far, takes_part, use_joins}
 use Rattle.vd_space.proofs.Front.{all_passes, item_kept, listed_at, part_kept, stands_have, tree_bounded, unless_passes}
-use Rattle.vd_search_stages.specs.SoFar.{is_bare, is_valid_so_far, so_far_tree, so_far_under, stand_so_far}
+use Rattle.vd_search_stages.specs.SoFar.{so_far_tree, so_far_under}
 
 -- ---- where it is the same
 
@@ -87,18 +87,6 @@ none_where_bare problem bare list full valid = is_not (list_all (has_candidate p
 pub bare_empty : (problem : Problem) (bound : List ℕ → ℤ) → is_bare problem ≡ true → IsEmpty (so_far_under problem bound)
 bare_empty problem bound bare list whole =
     none_where_bare problem bare list whole.full (sym (whole_same problem list whole.full) ∙ whole.valid)
-
--- ---- a list that is too long
-
-and_none : (b : Bool) → (b && false) ≡ false
-and_none true = refl
-and_none false = refl
-
-pub too_many : (problem : Problem) (makings : List Making) (prefix : List ℕ) → length makings < length prefix → stand_so_far problem makings prefix ≡ false
-too_many problem [] [] less = absurd (omega arith)
-too_many problem [] (p ∷ prefix) less = refl
-too_many problem (making ∷ makings) [] less = absurd (omega arith)
-too_many problem (making ∷ makings) (p ∷ prefix) less = ap (λ b. can_stand problem making p && b) (too_many problem makings prefix (omega (arith, less))) ∙ and_none (can_stand problem making p)
 
 -- ---- a valid list was valid so far at each step
 

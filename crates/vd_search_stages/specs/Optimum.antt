@@ -4,11 +4,11 @@ use Rattle.vd_search.specs.Answers.{nat_or_zero}
 use Rattle.vd_search_tree.specs.declared.search_certificate.certificate.Certificate.{Certificate}
 use Rattle.vd_space.specs.declared.problem.Problem.{Problem}
 use Rattle.vd_space.specs.Costs.{cost}
-use Rattle.vd_space.specs.Validity.{protocol}
+use Rattle.vd_space.specs.Validity.{is_bare, protocol}
 use Rattle.vd_space.specs.Cheapest.{IsCheapestAssignment, cost_of}
 use Rattle.vd_search_stages.specs.Choices.{ChoiceOutcomes, IsChosen}
 use Rattle.vd_search_stages.specs.Selecting.{IsAccepted}
-use Rattle.vd_search_stages.specs.SoFar.{has_own_form, is_bare}
+use Rattle.vd_search_stages.specs.SoFar.{has_own_form}
 use Rattle.vd_search_stages.specs.declared.optimum.Assignment.{Assignment}
 use Rattle.vd_search_stages.specs.declared.optimum.Optimum.{Optimum}
 use Rattle.vd_search_stages.specs.declared.selecting.Selection.{Selection}

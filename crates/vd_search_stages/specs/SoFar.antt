@@ -1,28 +1,11 @@
--- Validity of a prefix by what its slots decide alone: by it certificates of the first two forms are judged. What `is_valid` asks
--- besides is that each slot behind the prefix has a candidate.
-use Rattle.std.specs.Prelude.{◌≡◌, ℕ, IsTrue, Bool, true, false, ◌&&◌, ◌||◌, not, is_some, List, [], ◌∷◌, length, ℤ}
-use Rattle.std.specs.List.{list_all}
+-- Lists that are judged by what their slots decide: by it certificates of the first two forms are judged.
+use Rattle.std.specs.Prelude.{◌≡◌, ℕ, IsTrue, Bool, true, false, ◌||◌, not, is_some, List, length, ℤ}
 use Rattle.vd_search_tree.specs.declared.search_certificate.certificate.Certificate.{Certificate}
 use Rattle.vd_search_tree.specs.Trees.{Tree}
 use Rattle.vd_search_tree.specs.declared.shift.Shift.{Shift}
 use Rattle.vd_space.specs.declared.problem.Problem.{Problem}
-use Rattle.vd_space.specs.declared.problem.Making.{Making}
 use Rattle.vd_space.specs.Bounds.{high}
-use Rattle.vd_space.specs.Validity.{can_stand, guard_told, has_candidate, index_told, is_valid, output_joins, protocols, use_joins}
-
--- each decided slot is at a candidate, and there is a slot for each
-abbrev pub stand_so_far : Problem → List Making → List ℕ → Bool
-stand_so_far problem makings [] = true
-stand_so_far problem [] (p ∷ ps) = false
-stand_so_far problem (making ∷ makings) (p ∷ ps) = can_stand problem making p && stand_so_far problem makings ps
-
-abbrev pub is_valid_so_far : Problem → List ℕ → Bool
-is_valid_so_far problem prefix =
-    stand_so_far problem problem.slots prefix
-    && list_all (use_joins problem prefix) problem.uses
-    && list_all (output_joins problem prefix) problem.outputs
-    && list_all (guard_told problem prefix) problem.guards
-    && list_all (index_told problem prefix) problem.indexes
+use Rattle.vd_space.specs.Validity.{is_bare, is_valid, is_valid_so_far, protocols}
 
 -- the lists of a problem, with these bounds
 abbrev pub so_far_under : Problem → (List ℕ → ℤ) → Tree
@@ -36,10 +19,6 @@ so_far_under problem bound = record {
 -- and with those under shifts that name uses
 abbrev pub so_far_tree : Problem → List Shift → Tree
 so_far_tree problem shifts = so_far_under problem (high problem shifts)
-
--- some slot has no candidate
-abbrev pub is_bare : Problem → Bool
-is_bare problem = not (list_all (has_candidate problem) problem.slots)
 
 -- a certificate that no list is valid has the third form only where some slot has no candidate
 abbrev pub has_own_form : Problem → Certificate → Bool

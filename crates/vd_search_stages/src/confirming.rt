@@ -3,12 +3,12 @@
 ghost use Rattle.std.specs.Prelude.{◌≡◌, ◌<◌, IsFalse, false, length, true};
 ghost use Rattle.vd_space.specs.Arcs.{arcs};
 ghost use Rattle.vd_search_stages.specs.Confirming.{AreNetworkTablesFor, AreTablesFor, Confirms, IsSmallCertificate};
-ghost use Rattle.vd_search_stages.specs.SoFar.{is_bare as is_bare_problem};
-ghost use Rattle.vd_space.specs.WellFormed.{AreProtocols, IsWellFormed};
+ghost use Rattle.vd_space.specs.Validity.{is_bare};
+ghost use Rattle.vd_space.specs.WellFormed.{IsWellFormed};
 
-use crate::so_far::{Decided, is_bare};
+use crate::so_far::Decided;
 use std::alloc::Global;
-use vd_base::{Items, Proto};
+use vd_base::Items;
 use vd_bound::{CheckFault, Proved, check};
 use vd_cost_network_prefix::{NetworkPath, NetworkTables};
 use vd_cost_network_tables::network_tables;
@@ -27,7 +27,7 @@ fn confirm_by(
     requires tables { AreTablesFor problem.now tables.now certificate.now }
     requires small { IsSmallCertificate certificate.now }
     requires few_uses { length problem.now.uses < 4294967296 }
-    requires full { is_bare_problem problem.now ≡ false }
+    requires full { is_bare problem.now ≡ false }
     ensures { Confirms problem.now certificate.now result }
 {
     let mut path = Path::new(alloc, problem, tables)?;
@@ -35,23 +35,19 @@ fn confirm_by(
     check(alloc, &mut path, uses, certificate)
 }
 
-/// The same where some slot has no candidate.
+/// The same where some slot has no candidate, on a path from the empty prefix.
 fn confirm_bare(
     alloc: Global,
-    problem: &Problem,
-    list: &[Proto],
+    path: Decided,
     certificate: &Certificate,
 ) -> Result<Proved, CheckFault>
-    requires list { AreProtocols problem.now list.now }
-    requires bare { is_bare_problem problem.now ≡ true }
+    requires empty { path.depth ≡ 0 }
     requires by_uses { IsFalse certificate.now.by_arcs }
     requires small { IsSmallCertificate certificate.now }
-    requires few_slots { length problem.now.slots < 4294967296 }
-    requires few_uses { length problem.now.uses < 4294967296 }
-    ensures { Confirms problem.now certificate.now result }
+    ensures { Confirms path.problem.now certificate.now result }
 {
-    let mut path = Decided::new(alloc, problem, list)?;
-    let uses = problem.uses.as_slice().len() as u32;
+    let mut path = path;
+    let uses = path.problem.uses.as_slice().len() as u32;
     check(alloc, &mut path, uses, certificate)
 }
 
@@ -91,8 +87,9 @@ pub fn confirm(
         return confirm_by_arcs(alloc, problem, &plain, &by_arcs, certificate);
     }
     let list = all_protocols(alloc, problem)?;
-    if is_bare(problem, list.as_slice()) {
-        return confirm_bare(alloc, problem, list.as_slice(), certificate);
+    if problem.is_bare(list.as_slice()) {
+        let path = Decided::new(alloc, problem, list.as_slice())?;
+        return confirm_bare(alloc, path, certificate);
     }
     let tables = tables(alloc, problem, shifts)?;
     confirm_by(alloc, problem, &tables, certificate)

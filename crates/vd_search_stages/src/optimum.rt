@@ -11,7 +11,6 @@ ghost use Rattle.vd_space.specs.Validity.{protocol};
 ghost use Rattle.vd_space.specs.WellFormed.{IsWellFormed};
 
 use crate::selecting::Selection;
-use crate::so_far::is_bare;
 use crate::stages::select_places;
 use std::alloc::{AllocError, Global};
 use vd_base::{Items, Proto, protocol_at};
@@ -64,7 +63,7 @@ fn in_form(
     ensures { IfOk result (λ c. c ≡ formed problem.now certificate) }
 {
     let list = all_protocols(alloc, problem)?;
-    let by_arcs = is_bare(problem, list.as_slice());
+    let by_arcs = problem.is_bare(list.as_slice());
     Ok(Certificate {
         by_arcs,
         ..certificate
