@@ -142,28 +142,52 @@ impl Climb {
         by_arcs: &NetworkTables,
         thinned: &Thinned,
     ) -> Result<Nets, AllocError> {
+        let mut nets = self.nets_of_few(alloc, by_arcs, thinned)?;
+        let layout = &self.layout;
+        let counts = layout.counts.as_slice();
+        let arcs = by_arcs.arcs.as_slice();
+        thinned.extend(alloc, arcs, &layout.network, counts, &mut nets)?;
+        Ok(nets)
+    }
+
+    /// What the shifts come to by sweeps over fewer settings.
+    fn nets_of_few(
+        &mut self,
+        alloc: Global,
+        by_arcs: &NetworkTables,
+        thinned: &Thinned,
+    ) -> Result<Nets, AllocError> {
+        let layout = &self.layout;
+        let few = thinned.settings.as_slice();
+        let tables = Tables::of(alloc, by_arcs, &layout.network, &layout.order, few, 0)?;
+        let mut state = self.state_of_few(alloc, &tables, few)?;
+        let mut witness = Witness::none(alloc);
+        let mut kept = Last;
+        let network = &self.layout.network;
+        state.climb(alloc, &tables, network, THINNED, &mut witness, &mut kept)?;
+        state.come_back(&tables, network);
+        self.state.count(state.work());
+        state.nets(alloc, &tables, network, few, self.layout.counts.as_slice())
+    }
+
+    /// The state of sweeps over fewer settings, from what the shifts come to by all.
+    fn state_of_few(
+        &self,
+        alloc: Global,
+        tables: &Tables,
+        few: &[Vec<usize>],
+    ) -> Result<State, AllocError> {
         let layout = &self.layout;
         let network = &layout.network;
-        let counts = layout.counts.as_slice();
         let nets = self.state.nets(
             alloc,
             &self.tables,
             network,
             layout.settings.as_slice(),
-            counts,
+            layout.counts.as_slice(),
         )?;
-        let few = thinned.settings.as_slice();
-        let tables = Tables::of(alloc, by_arcs, network, &layout.order, few, 0)?;
         let most = layout.left.most;
-        let mut state = State::from_nets(alloc, &tables, network, most, few, &nets, false)?;
-        let mut witness = Witness::none(alloc);
-        let mut kept = Last;
-        state.climb(alloc, &tables, network, THINNED, &mut witness, &mut kept)?;
-        state.come_back(&tables, network);
-        self.state.count(state.work());
-        let mut nets = state.nets(alloc, &tables, network, few, counts)?;
-        thinned.extend(alloc, by_arcs.arcs.as_slice(), network, counts, &mut nets)?;
-        Ok(nets)
+        State::from_nets(alloc, tables, network, most, few, &nets, false)
     }
 
     /// What the shifts come to by all settings, where those that are not left are lifted.

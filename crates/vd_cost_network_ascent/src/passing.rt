@@ -132,6 +132,8 @@ pub(crate) fn walked(
     ensures { IfOk result (λ found. IfSome found (All (IsBeyond problem.now most))) }
 {
     let mut walk = Walk::new(alloc, problem, without, path, ascent, most)?;
-    let bound = NetworkBound::new(alloc, problem)?;
-    passed_to_whole(alloc, problem, &bound, &mut walk, most)
+    match NetworkBound::new(alloc, problem) {
+        Ok(bound) => passed_to_whole(alloc, problem, &bound, &mut walk, most),
+        Err(fault) => Err(fault),
+    }
 }

@@ -1,8 +1,9 @@
 //! The ascents by sweeps.
 
-ghost use Rattle.std.specs.Prelude.{IfSome};
+ghost use Rattle.std.specs.Prelude.{◌≤◌, IfOk, IfSome, length};
 ghost use Rattle.std.specs.List.{All};
 ghost use Rattle.vd_cost_network_bound.specs.Ascents.{IsBeyond};
+ghost use Rattle.vd_cost_network_prefix.specs.Tables.{AreNetworkTables};
 ghost use Rattle.vd_space.specs.Shifts.{AreArcShifts, AreUseShifts};
 
 use crate::ascent::Ascent;
@@ -45,13 +46,11 @@ impl Ascents for Sweeps {
         let Some(ascent) = Ascent::of(alloc, problem, without)? else {
             return Ok(None);
         };
-        let Some(shifts) = ascent.shifts(alloc, problem, without)? else {
-            return Ok(None);
-        };
-        if shifts.as_slice().len() == 0 {
-            return Ok(None);
+        match shifts_of_ascent(alloc, problem, without, &ascent) {
+            Ok(Some(shifts)) => Ok(Some(ArcAscent { ascent, shifts })),
+            Ok(None) => Ok(None),
+            Err(fault) => Err(fault),
         }
-        Ok(Some(ArcAscent { ascent, shifts }))
     }
 
     fn over_prefixes(
@@ -65,4 +64,24 @@ impl Ascents for Sweeps {
     ) -> Result<Option<Items<Items<u32>>>, AllocError> {
         walked(alloc, problem, without, path, ascent, most)
     }
+}
+
+/// The shifts of arcs that an ascent came to, where there are some.
+fn shifts_of_ascent(
+    alloc: Global,
+    problem: &Problem,
+    without: &NetworkTables,
+    ascent: &Ascent,
+) -> Result<Option<Items<Shift>>, AllocError>
+    requires { AreNetworkTables problem.now without.now }
+    ensures shifts { IfOk result (λ found. IfSome found (AreArcShifts problem.now)) }
+    ensures some { IfOk result (λ found. IfSome found (λ shifts. 1 ≤ length shifts)) }
+{
+    let Some(shifts) = ascent.shifts(alloc, problem, without)? else {
+        return Ok(None);
+    };
+    if shifts.as_slice().len() == 0 {
+        return Ok(None);
+    }
+    Ok(Some(shifts))
 }

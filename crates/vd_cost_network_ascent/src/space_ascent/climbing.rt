@@ -92,16 +92,37 @@ pub(crate) fn climbed(
     layout: &Layout,
     by_uses: &NetworkTables,
 ) -> Result<Nets, AllocError> {
-    let mut nets = climbed_by_levels(alloc, layout, by_uses)?;
-    let network = &layout.network;
     let tables = layout.tables(alloc, by_uses, UNIT_BITS)?;
-    let ahead = layout.state(alloc, &tables, &nets, true)?;
+    let nets = climbed_ahead(alloc, layout, by_uses, &tables)?;
+    lifted(alloc, layout, by_uses, &tables, &nets)
+}
+
+/// What shifts come to at the end of all levels, in whole units, as a further sweep forward would go by it.
+fn climbed_ahead(
+    alloc: Global,
+    layout: &Layout,
+    by_uses: &NetworkTables,
+    tables: &Tables,
+) -> Result<Nets, AllocError> {
+    let mut nets = climbed_by_levels(alloc, layout, by_uses)?;
+    let ahead = layout.state(alloc, tables, &nets, true)?;
     let settings = layout.settings.as_slice();
-    ahead.write_nets(&tables, network, settings, &[], &mut nets);
-    let mut state = layout.state(alloc, &tables, &nets, false)?;
-    state.send_home(&tables, network);
+    ahead.write_nets(tables, &layout.network, settings, &[], &mut nets);
+    Ok(nets)
+}
+
+/// What shifts come to behind these amounts, where what slots have above their least is sent home and what is not left is lifted.
+fn lifted(
+    alloc: Global,
+    layout: &Layout,
+    by_uses: &NetworkTables,
+    tables: &Tables,
+    nets: &Nets,
+) -> Result<Nets, AllocError> {
+    let mut state = layout.state(alloc, tables, nets, false)?;
+    state.send_home(tables, &layout.network);
     let mut lifting = Lifting::of(alloc, layout, LIFT)?;
-    lifting.write(&state, &tables, by_uses.arcs.as_slice(), layout, &[]);
+    lifting.write(&state, tables, by_uses.arcs.as_slice(), layout, &[]);
     Ok(lifting.into_nets())
 }
 
