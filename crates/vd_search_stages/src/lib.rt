@@ -1,6 +1,7 @@
 //! The choice of protocols for a problem, with a certificate that the checker accepts.
 #![tactic(auto)]
 
+mod arc_tables;
 mod confirming;
 mod laws;
 mod network;

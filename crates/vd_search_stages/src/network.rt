@@ -1,16 +1,16 @@
 //! The search by arcs.
 
-ghost use Rattle.std.specs.Prelude.{◌≡◌, ◌≢◌, ◌<◌, [], IfNone, IfOk, IfSome, Err, true};
+ghost use Rattle.std.specs.Prelude.{◌≡◌, ◌≢◌, ◌<◌, IfNone, IfOk, IfSome, Err, true};
 ghost use Rattle.vd_space.specs.Network.{network_tree};
 ghost use Rattle.vd_cost_network_prefix.specs.Tables.{AreNetworkTables};
-ghost use Rattle.vd_space_prefix.specs.Tables.{AreTables};
-ghost use Rattle.vd_search_stages.specs.Network.{CanUseArcs, CanSelectByArcs, HasArcShifts, Tells};
+ghost use Rattle.vd_search_stages.specs.Network.{CanUseArcs, HasArcShifts, Tells};
 ghost use Rattle.vd_search_stages.specs.Selecting.{CostsAtLeast, Selects};
 ghost use Rattle.vd_search_stages.specs.Spending.{GivesOnly, HasNoRootBound, IfUnended, IsOverBy, IsOverByArcs, IsRootBound, IsSpentByArcs, network_part};
 ghost use Rattle.vd_search_stages.specs.Stages.{CanSelect, Tries};
 ghost use Rattle.vd_search.specs.declared.writing.SearchFault.TheVariants as search_fault;
 ghost use Rattle.vd_space.specs.WellFormed.{IsWellFormed};
 
+use crate::arc_tables::ArcTables;
 use crate::selecting::{Selection, refuted};
 use crate::stages::{network_budget, try_some};
 use crate::trying::Tried;
@@ -61,24 +61,21 @@ pub(crate) fn network_selection(
     }
 }
 
-/// The choice, or that there is none, by the tables without shifts and by those of arcs; nothing where the budget is spent.
+/// The choice, or that there is none, by these tables; nothing where the budget is spent.
 fn select_by_arcs(
     alloc: Global,
-    problem: &Problem,
-    tables: &Tables,
-    by_arcs: &NetworkTables,
+    tables: &ArcTables,
     budget: u32,
 ) -> Result<Option<Selection>, SearchFault>
-    requires tables { CanSelectByArcs problem.now tables.now by_arcs.now }
-    requires budget { budget < 4294967295 }
-    ensures selects { IfOk result (λ found. IfSome found (Selects problem.now budget)) }
-    ensures over { IfOk result (λ found. IfNone found (IsOverByArcs problem.now by_arcs.now.shifts budget)) }
+    requires { budget < 4294967295 }
+    ensures selects { IfOk result (λ found. IfSome found (Selects tables.now.problem.now budget)) }
+    ensures over { IfOk result (λ found. IfNone found (IsOverByArcs tables.now.problem.now tables.now.by_arcs.now.shifts budget)) }
     ensures unspent { result ≢ Err search_fault.Spent }
 {
-    let mut path = NetworkPath::new(alloc, problem, tables, by_arcs)?;
+    let mut path = NetworkPath::new(alloc, tables.problem, tables.plain, tables.by_arcs)?;
     match search(alloc, &mut path, budget) {
         Ok(answer) => {
-            let selection = network_selection(alloc, by_arcs, answer)?;
+            let selection = network_selection(alloc, tables.by_arcs, answer)?;
             Ok(Some(selection))
         }
         Err(SearchFault::Spent) => Ok(None),
@@ -86,31 +83,24 @@ fn select_by_arcs(
     }
 }
 
-/// The choice, or that there is none, by these tables of arcs, and where they leave too many ties by a walk; nothing where the
-/// budget is spent.
+/// The choice, or that there is none, by these tables, and where they leave too many ties by a walk; nothing where the budget is
+/// spent.
 fn select_network<A: Ascents>(
     alloc: Global,
     ascents: &A,
-    problem: &Problem,
-    tables: &Tables,
-    without: &NetworkTables,
-    by_arcs: &NetworkTables,
+    tables: &ArcTables,
     ascent: A::Ascent,
     budget: u32,
 ) -> Result<Option<Selection>, SearchFault>
-    requires tables { CanSelectByArcs problem.now tables.now by_arcs.now }
-    requires without { AreNetworkTables problem.now without.now }
-    requires budget { budget < 4294967295 }
-    ensures selects { IfOk result (λ found. IfSome found (Selects problem.now budget)) }
-    ensures spent { IfOk result (λ found. IfNone found
-        (IsSpentByArcs problem.now budget (A.walks_give ascents.now problem.now) by_arcs.now.shifts)) }
+    requires { budget < 4294967295 }
+    ensures selects { IfOk result (λ found. IfSome found (Selects tables.now.problem.now budget)) }
+    ensures spent { IfOk result (λ found. IfNone found (IsSpentByArcs tables.now.problem.now budget
+        (A.walks_give ascents.now tables.now.problem.now) tables.now.by_arcs.now.shifts)) }
     ensures unspent { result ≢ Err search_fault.Spent }
 {
-    match select_by_arcs(alloc, problem, tables, by_arcs, budget)? {
+    match select_by_arcs(alloc, tables, budget)? {
         Some(selection) => Ok(Some(selection)),
-        None => select_by_walk(
-            alloc, ascents, problem, tables, without, by_arcs, ascent, budget,
-        ),
+        None => select_by_walk(alloc, ascents, tables, ascent, budget),
     }
 }
 
@@ -129,19 +119,11 @@ pub(crate) fn bound_of_all(path: &NetworkPath) -> Option<u32>
     }
 }
 
-/// What each valid list costs at least, by the tables without shifts and by those of arcs; 0 where these say nothing of it.
-fn floor_by_arcs(
-    alloc: Global,
-    problem: &Problem,
-    tables: &Tables,
-    by_arcs: &NetworkTables,
-) -> Result<u32, AllocError>
-    requires tables { AreTables problem.now tables.now }
-    requires plain { tables.now.shifts ≡ [] }
-    requires by_arcs { AreNetworkTables problem.now by_arcs.now }
-    ensures { IfOk result (CostsAtLeast problem.now) }
+/// What each valid list costs at least, by these tables; 0 where these say nothing of it.
+fn floor_by_arcs(alloc: Global, tables: &ArcTables) -> Result<u32, AllocError>
+    ensures { IfOk result (CostsAtLeast tables.now.problem.now) }
 {
-    let path = NetworkPath::new(alloc, problem, tables, by_arcs)?;
+    let path = NetworkPath::new(alloc, tables.problem, tables.plain, tables.by_arcs)?;
     match bound_of_all(&path) {
         Some(floor) => Ok(floor),
         None => Ok(0),
@@ -154,36 +136,28 @@ fn floor_by_arcs(
 fn try_network<A: Ascents>(
     alloc: Global,
     ascents: &A,
-    problem: &Problem,
     better: &Option<Tables>,
-    without: &NetworkTables,
-    by_arcs: &NetworkTables,
+    tables: &ArcTables,
     ascent: A::Ascent,
     budget: u32,
 ) -> Result<Tried, SearchFault>
-    requires better { IfSome better.now (CanSelect problem.now) }
-    requires without { AreNetworkTables problem.now without.now }
-    requires by_arcs { CanUseArcs problem.now by_arcs.now }
+    requires better { IfSome better.now (CanSelect tables.now.problem.now) }
     requires budget { budget < 4294967295 }
-    ensures tries { IfOk result (Tries problem.now budget) }
-    ensures over { IfOk result (IfUnended (IsOverBy problem.now better.now budget)) }
-    ensures spent { IfOk result (IfUnended
-        (IsSpentByArcs problem.now (network_part problem.now budget) (A.walks_give ascents.now problem.now) by_arcs.now.shifts)) }
+    ensures tries { IfOk result (Tries tables.now.problem.now budget) }
+    ensures over { IfOk result (IfUnended (IsOverBy tables.now.problem.now better.now budget)) }
+    ensures spent { IfOk result (IfUnended (IsSpentByArcs tables.now.problem.now (network_part tables.now.problem.now budget)
+        (A.walks_give ascents.now tables.now.problem.now) tables.now.by_arcs.now.shifts)) }
     ensures unspent { result ≢ Err search_fault.Spent }
 {
-    let tables = tables(alloc, problem, Items::new(alloc))?;
-    let floor = floor_by_arcs(alloc, problem, &tables, by_arcs)?;
-    if let Some(selection) = try_some(alloc, problem, better, floor, budget)? {
+    let floor = floor_by_arcs(alloc, tables)?;
+    if let Some(selection) = try_some(alloc, tables.problem, better, floor, budget)? {
         return Ok(Tried::Selected(selection));
     }
-    let part = network_budget(problem, budget);
-    let selected = select_network(
-        alloc, ascents, problem, &tables, without, by_arcs, ascent, part,
-    )?;
-    if let Some(selection) = selected {
-        return Ok(Tried::Selected(selection));
+    let part = network_budget(tables.problem, budget);
+    match select_network(alloc, ascents, tables, ascent, part)? {
+        Some(selection) => Ok(Tried::Selected(selection)),
+        None => Ok(Tried::Unended(floor)),
     }
-    Ok(Tried::Unended(floor))
 }
 
 /// The tables of these shifts of arcs.
@@ -222,9 +196,14 @@ fn try_ascent<A: Ascents>(
 {
     let ArcAscent { ascent, shifts } = found;
     let by_arcs = tables_of(alloc, problem, shifts)?;
-    try_network(
-        alloc, ascents, problem, better, without, &by_arcs, ascent, budget,
-    )
+    let plain = tables(alloc, problem, Items::new(alloc))?;
+    let tables = ArcTables {
+        problem,
+        plain: &plain,
+        without,
+        by_arcs: &by_arcs,
+    };
+    try_network(alloc, ascents, better, &tables, ascent, budget)
 }
 
 /// The choice, or that there is none, by these tables of better shifts of uses, by the shifts of arcs that an ascent gives, and
