@@ -39,11 +39,14 @@ fn answer_choice(alloc: Global, source: &str, choice: Choice) -> Result<Answer, 
 {
     let stores = certificate_files(alloc, source, &choice.certificate)?;
     match &choice.assignment {
-        Some(assignment) => Ok(Answer {
-            status: Status::Ended,
-            stores,
-            printed: assignment_text(alloc, &choice.program, assignment)?,
-        }),
+        Some(assignment) => {
+            let printed = assignment_text(alloc, &choice.program, assignment)?;
+            Ok(Answer {
+                status: Status::Ended,
+                stores,
+                printed,
+            })
+        }
         None => Ok(Answer {
             status: Status::NoAssignment(Labelled::new(choice.program, choice.labels)),
             stores,

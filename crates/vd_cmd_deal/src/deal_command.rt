@@ -30,9 +30,10 @@ pub fn deal(alloc: Global, counts: Counts, key: u64, prefix: &str) -> Result<Ans
     ensures { Computes (deal_answer counts key prefix.now) result }
 {
     let deals = make(alloc, counts, key)?;
+    let stores = files_of(alloc, prefix, deals.as_slice())?;
     Ok(Answer {
         status: Status::Ended,
-        stores: files_of(alloc, prefix, deals.as_slice())?,
+        stores,
         printed: Bytes::new(alloc),
     })
 }

@@ -58,9 +58,10 @@ pub(crate) fn deal_by_key(
     ensures { Computes (key_answer counts key.now prefix.now) result }
 {
     let deals = make_by_key(alloc, counts, &items_key(counts, key))?;
+    let stores = files_of(alloc, counts, key, prefix, deals.as_slice())?;
     Ok(Answer {
         status: Status::Ended,
-        stores: files_of(alloc, counts, key, prefix, deals.as_slice())?,
+        stores,
         printed: Bytes::new(alloc),
     })
 }
