@@ -29,7 +29,7 @@ pub fn program_of(alloc: Global, text: &[u8]) -> Result<Program, Status>
 {
     let tree = read_source(alloc, text)?;
     let source = resolve_source(alloc, tree)?;
-    let program = run_program(alloc, &source)?;
+    let program = run_program(alloc, source)?;
     Ok(program)
 }
 

@@ -61,9 +61,9 @@ fn depends_in_program(alloc: Global, program: &Program, name: &str) -> Result<An
 }
 
 /// What `depends` does with a source that meets every rule.
-fn depends_in_source(alloc: Global, source: &Resolved, name: &str) -> Result<Answer, Status>
-    ensures executes { ExecutesSource name.now source.now result }
-    ensures tells { TellsSource name.now source.now result }
+fn depends_in_source(alloc: Global, source: Resolved, name: &str) -> Result<Answer, Status>
+    ensures executes { ExecutesSource name.now source result }
+    ensures tells { TellsSource name.now source result }
 {
     let program = run_program(alloc, source)?;
     depends_in_program(alloc, &program, name)
@@ -82,5 +82,5 @@ pub fn depends<F: Files>(
     ensures tells { TellsDependence source.now host.now (F.view files.old) result }
 {
     let resolved = load_source(alloc, files, source)?;
-    depends_in_source(alloc, &resolved, host)
+    depends_in_source(alloc, resolved, host)
 }

@@ -51,9 +51,9 @@ fn influences_in_program(alloc: Global, program: &Program, name: &str) -> Result
 }
 
 /// What `influences` does with a source that meets every rule.
-fn influences_in_source(alloc: Global, source: &Resolved, name: &str) -> Result<Answer, Status>
-    ensures executes { ExecutesSource name.now source.now result }
-    ensures tells { TellsSource name.now source.now result }
+fn influences_in_source(alloc: Global, source: Resolved, name: &str) -> Result<Answer, Status>
+    ensures executes { ExecutesSource name.now source result }
+    ensures tells { TellsSource name.now source result }
 {
     let program = run_program(alloc, source)?;
     influences_in_program(alloc, &program, name)
@@ -72,5 +72,5 @@ pub fn influences<F: Files>(
     ensures tells { TellsInfluence source.now host.now (F.view files.old) result }
 {
     let resolved = load_source(alloc, files, source)?;
-    influences_in_source(alloc, &resolved, host)
+    influences_in_source(alloc, resolved, host)
 }

@@ -8,13 +8,12 @@ ghost use Rattle.vd_cmd_plan.specs.Plans.{Checks, Computes, Executes, ended};
 ghost use Rattle.vd_cmd_labels.specs.Outcomes.{LabelOutcomes};
 ghost use Rattle.vd_cmd_labels.specs.Labelling.{fault_of, labels_of, labels_text as text_of_labels, program_plan, labelled_plan, ExecutesLabels};
 
-use crate::sources::load_source;
+use crate::sources::{load_source, normal_program};
 use std::alloc::{AllocError, Global};
 use vd_base::{Items, Name, Names};
 use vd_cmd_plan::{Answer, FlowFault, Status};
 use vd_constraints::{Check, Labels, Origin, constraints};
 use vd_core::{NormalForm, Program};
-use vd_elaborate::elaborate;
 use vd_outside::Files;
 use vd_report::labels_text;
 use vd_resolve::Resolved;
@@ -97,10 +96,10 @@ fn label_program(alloc: Global, program: &Program) -> Result<Answer, Status>
 }
 
 /// What `labels` does with a source that meets every rule.
-fn label_source(alloc: Global, source: &Resolved) -> Result<Answer, Status>
-    ensures { (least : LabelOutcomes) (files : FilesView) → Executes true (labelled_plan least source.now) files files result }
+fn label_source(alloc: Global, source: Resolved) -> Result<Answer, Status>
+    ensures { (least : LabelOutcomes) (files : FilesView) → Executes true (labelled_plan least source) files files result }
 {
-    let program = elaborate(alloc, source)?;
+    let program = normal_program(alloc, source)?;
     label_program(alloc, &program)
 }
 
@@ -109,5 +108,5 @@ pub fn labels<F: Files>(alloc: Global, files: &mut F, source: &str) -> Result<An
     ensures { ExecutesLabels source.now (F.view files.old) (F.view files.new) result }
 {
     let resolved = load_source(alloc, files, source)?;
-    label_source(alloc, &resolved)
+    label_source(alloc, resolved)
 }

@@ -12,7 +12,7 @@ mod sources;
 pub use clear_command::clear;
 pub use inputs::load_inputs;
 pub use labels_command::{labels, least_labels};
-pub use sources::{load_source, read_source, resolve_source};
+pub use sources::{load_source, normal_program, read_source, resolve_source};
 
 /// Each text and each system of flow rules has an outcome, so there are functions for the clauses to speak of.
 pub fn outcomes_exist()

@@ -4,6 +4,8 @@ ghost use Rattle.std.specs.Prelude.{◌≡◌, ◌≢◌, ◌≤◌, ℕ, List, 
 ghost use Rattle.vd_base.specs.Limits.{most_source_bytes};
 ghost use Rattle.vd_core.specs.Named.{HasNames};
 ghost use Rattle.vd_semantics.specs.SourceMeaning.{host_names};
+ghost use Rattle.vd_elaborate.specs.Normal.{normal_form};
+ghost use Rattle.vd_elaborate.specs.Outputs.{KeepsOutputs};
 ghost use Rattle.vd_parser.specs.Outcomes.{IsParse};
 ghost use Rattle.vd_parser.specs.declared.fault.ParseFault.TheVariants as parse_fault;
 ghost use Rattle.vd_cmd_plan.specs.Held.{Finds};
@@ -15,7 +17,8 @@ use std::alloc::{AllocError, Global};
 use vd_base::limits::SOURCE_BYTES;
 use vd_base::{Name, Names};
 use vd_cmd_plan::{Status, load, rule_status};
-use vd_core::Source;
+use vd_core::{Program, Source};
+use vd_elaborate::elaborate;
 use vd_outside::Files;
 use vd_parser::{ParseFault, parse};
 use vd_resolve::{Resolved, resolve};
@@ -64,6 +67,14 @@ pub fn resolve_source(alloc: Global, source: Source) -> Result<Resolved, Status>
         Ok(resolved) => Ok(resolved),
         Err(fault) => Err(rule_status(fault)),
     }
+}
+
+/// The let-normal program of a source, which is freed here: so no caller has to free a tree.
+pub fn normal_program(alloc: Global, source: Resolved) -> Result<Program, AllocError>
+    ensures form { IfOk result (λ program. program ≡ normal_form source) }
+    ensures outputs { IfOk result (KeepsOutputs source) }
+{
+    elaborate(alloc, &source)
 }
 
 /// Fetches a source, reads it and resolves it.

@@ -9,9 +9,9 @@ ghost use Rattle.vd_cmd_rewrite.specs.RunPrograms.{IsFound, IsLabelledOr, IsRunF
 
 use crate::plain::{some_branch, some_division};
 use std::alloc::{AllocError, Global};
+use vd_cmd_labels::normal_program;
 use vd_constraints::{Labels, constraints};
 use vd_core::Program;
-use vd_elaborate::elaborate;
 use vd_long::lengthen_labelled;
 use vd_mux::turn_labelled;
 use vd_resolve::Resolved;
@@ -93,12 +93,12 @@ fn with_loops(alloc: Global, program: Program) -> Result<Program, AllocError>
 }
 
 /// The program of a source that protocols are chosen for and that is run. It fails only where memory runs out.
-pub fn run_program(alloc: Global, source: &Resolved) -> Result<Program, AllocError>
-    ensures form { IfOk result (IsRunForm source.now) }
-    ensures made { IfOk result (IsRunProgram source.now) }
-    ensures tells { IfOk result (TellsAs source.now) }
+pub fn run_program(alloc: Global, source: Resolved) -> Result<Program, AllocError>
+    ensures form { IfOk result (IsRunForm source) }
+    ensures made { IfOk result (IsRunProgram source) }
+    ensures tells { IfOk result (TellsAs source) }
 {
-    let program = elaborate(alloc, source)?;
+    let program = normal_program(alloc, source)?;
     let _form = program.form();
     let turned = with_selections(alloc, program)?;
     let _turned_form = turned.form();

@@ -17,11 +17,10 @@ use std::alloc::{AllocError, Global};
 use vd_base::Bytes;
 use vd_base::limits::SEARCH_BUDGET;
 use vd_cmd_choice::{choice_of, no_assignment};
-use vd_cmd_labels::{read_source, resolve_source};
+use vd_cmd_labels::{normal_program, read_source, resolve_source};
 use vd_cmd_plan::{Answer, Status};
 use vd_cmd_replay::replay_at;
 use vd_core::Program;
-use vd_elaborate::elaborate;
 use vd_gen::generate;
 use vd_resolve::Resolved;
 use vd_search_stages::Assignment;
@@ -88,12 +87,12 @@ fn trial_program(alloc: Global, program: Program, coordinates: u32) -> Result<An
 }
 
 /// What `trial` does with a source that meets every rule.
-fn trial_source(alloc: Global, source: &Resolved, coordinates: u32) -> Result<Answer, Status>
-    requires { weight_sum (normal_form source.now).body ≤ most_executed }
-    ensures executes { ExecutesSource coordinates source.now result }
-    ensures tells { TellsSource coordinates source.now result }
+fn trial_source(alloc: Global, source: Resolved, coordinates: u32) -> Result<Answer, Status>
+    requires { weight_sum (normal_form source).body ≤ most_executed }
+    ensures executes { ExecutesSource coordinates source result }
+    ensures tells { TellsSource coordinates source result }
 {
-    let program = elaborate(alloc, source)?;
+    let program = normal_program(alloc, source)?;
     trial_program(alloc, program, coordinates)
 }
 
@@ -112,5 +111,5 @@ pub fn trial(alloc: Global, coordinates: u32) -> Result<Answer, Status>
     let text = generate(alloc, coordinates)?;
     let tree = read_source(alloc, text.as_slice())?;
     let source = resolve_source(alloc, tree)?;
-    trial_source(alloc, &source, coordinates)
+    trial_source(alloc, source, coordinates)
 }

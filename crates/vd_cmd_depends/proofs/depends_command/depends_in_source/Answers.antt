@@ -26,4 +26,4 @@ told name source program (Ok answer) is tells = λ e. (program, is, tells e)
 told name source program (Err status) is tells = tt
 
 pub returns-clause-tells : goal.returns-clause-tells
-returns-clause-tells c = told c.args.name.now c.args.source.now c.in_ok-program.program c.depends_in_program.result c.in_ok-program.ensures.made c.depends_in_program.ensures.tells
+returns-clause-tells c = told c.args.name.now c.args.source c.in_ok-program.program c.depends_in_program.result c.in_ok-program.ensures.made c.depends_in_program.ensures.tells

@@ -22,4 +22,4 @@ pub returns-clause-executes : goal.returns-clause-executes
 returns-clause-executes c = subst (λ (form : NormalForm). ExecutesProgram c.args.coordinates form c.trial_program.result) c.in_ok-program.ensures.form c.trial_program.ensures.executes
 
 pub returns-clause-tells : goal.returns-clause-tells
-returns-clause-tells c = source_told c.args.coordinates c.args.source.now c.in_ok-program.program c.trial_program.result c.in_ok-program.ensures.form c.trial_program.ensures.tells
+returns-clause-tells c = source_told c.args.coordinates c.args.source c.in_ok-program.program c.trial_program.result c.in_ok-program.ensures.form c.trial_program.ensures.tells
