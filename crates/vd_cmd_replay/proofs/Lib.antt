@@ -5,4 +5,5 @@ mod Held
 mod Counting
 mod Steps
 mod Accepting
+mod Budgets
 mod Sure
