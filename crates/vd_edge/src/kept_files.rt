@@ -245,6 +245,13 @@ impl<D: Directory + Drop> KeptFiles<D> {
         }
     }
 
+    /// The files below, with all that was stored.
+    pub fn into_inner(self) -> RealFiles<D>
+        ensures { result ≡ self.files }
+    {
+        self.files
+    }
+
     /// The answer to a fetch.
     fn answer(&self, name: &str, limit: u32) -> Result<Bytes, FetchFault>
         ensures gives { IfOk result (λ bytes.
