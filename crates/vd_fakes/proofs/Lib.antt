@@ -1,4 +1,5 @@
 mod Children
+mod Entries
 mod Freed
 mod Fresh
 mod Pieces

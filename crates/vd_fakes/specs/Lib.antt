@@ -1,5 +1,6 @@
 pub mod Failing
 pub mod Found
+pub mod MemDirectory
 pub mod MemFiles
 pub mod MemLink
 pub mod MemMarks

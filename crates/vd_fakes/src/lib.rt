@@ -1,9 +1,11 @@
 //! The outside in memory, for tests: files, sinks, links, nets, marks and spawners. Of each there is one that never fails, but of
-//! marks, and one that fails at the calls that it is given and passes so many bytes a call at most.
+//! marks, and one that fails at the calls that it is given and passes so many bytes a call at most. A directory, which tells what it
+//! holds, fails at the changes that it is given.
 #![tactic(auto)]
 
 mod failures;
 mod finding;
+mod mem_directory;
 mod mem_files;
 mod mem_link;
 mod mem_marks;
@@ -18,6 +20,7 @@ mod sure_spawner;
 mod waiting;
 
 pub use failures::Failures;
+pub use mem_directory::{Entry, MemDirectory};
 pub use mem_files::MemFiles;
 pub use mem_link::MemLink;
 pub use mem_marks::{Mark, MemMarks};
