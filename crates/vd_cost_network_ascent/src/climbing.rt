@@ -6,7 +6,7 @@ use crate::cost_network_dominance::Thinned;
 use std::alloc::{AllocError, Global};
 use vd_base::Items;
 use vd_cost_network_dual::{
-    Ending, Last, Layout, Lift, Lifting, Nets, Reach, State, Tables, Witness,
+    Ending, Layout, Lift, Lifting, Limits, Nets, NoObserver, State, Tables, Witness,
 };
 use vd_cost_network_prefix::{ArcTable, NetworkTables};
 use vd_protocol::protocols;
@@ -14,7 +14,7 @@ use vd_space::Problem;
 use vd_space_tables::candidates;
 
 /// At first so many sweeps are made at most, over all settings.
-const FIRST: Reach = Reach {
+const FIRST: Limits = Limits {
     sweeps: 256,
     work: 268_435_456,
     patience: 48,
@@ -25,7 +25,7 @@ const FIRST: Reach = Reach {
 };
 
 /// Then so many over those settings that cost less than each other one of their point for some partners.
-const THINNED: Reach = Reach {
+const THINNED: Limits = Limits {
     sweeps: 16_384,
     work: 268_435_456,
     patience: 400,
@@ -36,7 +36,7 @@ const THINNED: Reach = Reach {
 };
 
 /// At last so many over all settings again.
-const LAST: Reach = Reach {
+const LAST: Limits = Limits {
     sweeps: 512,
     work: 402_653_184,
     patience: 48,
@@ -94,7 +94,7 @@ impl Climb {
             return Ok(None);
         };
         let tables = layout.tables(alloc, by_arcs, 0)?;
-        let state = State::of(alloc, &tables, &layout.network, layout.left.most)?;
+        let state = State::of(alloc, &tables, &layout.network, layout.domains.most)?;
         let mut climb = Climb {
             layout,
             tables,
@@ -104,21 +104,23 @@ impl Climb {
         if climb.sweep(alloc, FIRST)? == Ending::Cut {
             climb.go_on(alloc, by_arcs)?;
         }
-        climb.state.send_home(&climb.tables, &climb.layout.network);
+        climb
+            .state
+            .give_to_nearest(&climb.tables, &climb.layout.network);
         Ok(Some(climb))
     }
 
     /// Sweeps over all settings.
-    fn sweep(&mut self, alloc: Global, reach: Reach) -> Result<Ending, AllocError> {
+    fn sweep(&mut self, alloc: Global, limits: Limits) -> Result<Ending, AllocError> {
         let witness = &mut self.witness;
-        let mut kept = Last;
+        let mut observer = NoObserver;
         self.state.climb(
             alloc,
             &self.tables,
             &self.layout.network,
-            reach,
+            limits,
             witness,
-            &mut kept,
+            &mut observer,
         )
     }
 
@@ -126,7 +128,8 @@ impl Climb {
     fn go_on(&mut self, alloc: Global, by_arcs: &NetworkTables) -> Result<(), AllocError> {
         let settings = self.layout.settings.as_slice();
         let thinned = Thinned::of(alloc, &self.tables, &self.layout.network, settings)?;
-        self.state.come_back(&self.tables, &self.layout.network);
+        self.state
+            .sweep_backward(&self.tables, &self.layout.network);
         let nets = self.thinned_nets(alloc, by_arcs, &thinned)?;
         let work = self.state.work();
         self.state = self.layout.state(alloc, &self.tables, &nets, false)?;
@@ -162,10 +165,17 @@ impl Climb {
         let tables = Tables::of(alloc, by_arcs, &layout.network, &layout.order, few, 0)?;
         let mut state = self.state_of_few(alloc, &tables, few)?;
         let mut witness = Witness::none(alloc);
-        let mut kept = Last;
+        let mut observer = NoObserver;
         let network = &self.layout.network;
-        state.climb(alloc, &tables, network, THINNED, &mut witness, &mut kept)?;
-        state.come_back(&tables, network);
+        state.climb(
+            alloc,
+            &tables,
+            network,
+            THINNED,
+            &mut witness,
+            &mut observer,
+        )?;
+        state.sweep_backward(&tables, network);
         self.state.count(state.work());
         state.nets(alloc, &tables, network, few, self.layout.counts.as_slice())
     }
@@ -186,7 +196,7 @@ impl Climb {
             layout.settings.as_slice(),
             layout.counts.as_slice(),
         )?;
-        let most = layout.left.most;
+        let most = layout.domains.most;
         State::from_nets(alloc, tables, network, most, few, &nets, false)
     }
 
@@ -211,9 +221,9 @@ impl Climb {
     pub(crate) fn work_of_shifts(&self) -> u64 {
         let layout = &self.layout;
         let mut work: u64 = 0;
-        for death in &layout.left.deaths {
-            let arcs = layout.network.of_point(death.point).len() as u64;
-            work = work.saturating_add(arcs.saturating_mul(layout.left.most as u64));
+        for removal in &layout.domains.removed {
+            let arcs = layout.network.of_point(removal.point).len() as u64;
+            work = work.saturating_add(arcs.saturating_mul(layout.domains.most as u64));
         }
         for first in &layout.network.firsts {
             let here = self.tables.rows(*first).len() as u64;

@@ -6,7 +6,7 @@ use crate::tables::Tables;
 
 /// How far a climb goes, and what it does on the way.
 #[derive(Clone, Copy, PartialEq, Eq)]
-pub struct Reach {
+pub struct Limits {
     /// So many sweeps are made at most.
     pub sweeps: u32,
     /// The sweeps end when so much was computed.
@@ -23,7 +23,7 @@ pub struct Reach {
     pub gap: i64,
 }
 
-impl Reach {
+impl Limits {
     /// Whether a list is read off behind the sweep with that number, which went that way.
     pub(crate) fn reads(self, turn: u32, forward: bool) -> bool {
         forward == self.reads_forward && turn & self.pause >= self.pause.saturating_sub(1)
@@ -37,15 +37,15 @@ impl Reach {
 }
 
 /// What a climb keeps of the amounts that its sweeps came to.
-pub trait Keep {
+pub trait Observer {
     /// Takes note of a sweep before which no bound was greater.
-    fn keep(&mut self, state: &State, tables: &Tables, network: &Network);
+    fn observe(&mut self, state: &State, tables: &Tables, network: &Network);
 }
 
 /// Nothing but what the state has behind the last sweep.
 #[derive(Clone, Copy, PartialEq, Eq)]
-pub struct Last;
+pub struct NoObserver;
 
-impl Keep for Last {
-    fn keep(&mut self, _state: &State, _tables: &Tables, _network: &Network) {}
+impl Observer for NoObserver {
+    fn observe(&mut self, _state: &State, _tables: &Tables, _network: &Network) {}
 }

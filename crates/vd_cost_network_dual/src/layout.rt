@@ -1,6 +1,6 @@
 //! What sweeps go over.
 
-use crate::left::Left;
+use crate::arc_consistency::Domains;
 use crate::nets::Nets;
 use crate::network::Network;
 use crate::numbers::settings_at;
@@ -17,7 +17,7 @@ use vd_space::Problem;
 pub struct Layout {
     pub order: Order,
     pub network: Network,
-    pub left: Left,
+    pub domains: Domains,
     /// How many settings each point has, with those that are not left.
     pub counts: Vec<usize>,
     /// Those that are left, by point.
@@ -35,15 +35,15 @@ impl Layout {
     ) -> Result<Option<Layout>, AllocError> {
         let order = Order::of(alloc, problem, tables.switches.as_slice())?;
         let network = Network::of(alloc, tables.arcs.as_slice(), &order)?;
-        let left = Left::of(alloc, problem, tables, candidates, &network, &order)?;
-        let Some(settings) = left.settings(alloc)? else {
+        let domains = Domains::of(alloc, problem, tables, candidates, &network, &order)?;
+        let Some(settings) = domains.settings(alloc)? else {
             return Ok(None);
         };
-        let counts = left.counts(alloc)?;
+        let counts = domains.counts(alloc)?;
         Ok(Some(Layout {
             order,
             network,
-            left,
+            domains,
             counts,
             settings,
         }))
@@ -94,7 +94,7 @@ impl Layout {
             alloc,
             tables,
             &self.network,
-            self.left.most,
+            self.domains.most,
             settings,
             nets,
             forward,

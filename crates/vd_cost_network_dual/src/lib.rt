@@ -2,9 +2,9 @@
 //! the terms of these, so that the sum of their least values rises. Nothing is promised of the amounts.
 #![tactic(auto)]
 
+mod arc_consistency;
 mod climb;
 mod layout;
-mod left;
 mod lifting;
 mod messages;
 mod nets;
@@ -12,18 +12,18 @@ mod network;
 mod numbers;
 mod order;
 mod progress;
-mod shares;
+mod splitter;
 mod sweeps;
 mod tables;
 mod witness;
 
-pub use climb::{Keep, Last, Reach};
+pub use arc_consistency::FORBIDDEN_COST;
+pub use climb::{Limits, NoObserver, Observer};
 pub use layout::Layout;
-pub use left::NOTHING_LEFT;
 pub use lifting::{Lift, Lifting};
 pub use nets::Nets;
 pub use network::{End, Network, Side};
-pub use numbers::{FAR, UNIT, UNIT_BITS, number_at, row_at, settings_at};
+pub use numbers::{INFINITE_COST, UNIT, UNIT_BITS, number_at, row_at, settings_at};
 pub use progress::Ending;
 pub use sweeps::State;
 pub use tables::Tables;

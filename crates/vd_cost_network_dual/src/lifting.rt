@@ -2,11 +2,11 @@
 //! its point, which is taken from the arc where it has no partner left: no two that are left lose by that. At its other arcs it
 //! costs more as far as it would cost too little there, or by so much at least.
 
+use crate::arc_consistency::Removal;
 use crate::layout::Layout;
-use crate::left::Death;
 use crate::nets::{Nets, fixed_at};
 use crate::network::{End, Network};
-use crate::numbers::{FAR, number_at, settings_at};
+use crate::numbers::{INFINITE_COST, number_at, settings_at};
 use crate::sweeps::State;
 use crate::tables::Tables;
 use std::alloc::{AllocError, Global};
@@ -72,38 +72,38 @@ impl Lifting {
     /// Lifts all that went, from the last to the first: by that time those are lifted that it had for partners. A point that is
     /// fixed is at none of them, so these need not be.
     fn lift_all(&mut self, arcs: &[ArcTable], layout: &Layout, fixed: &[Option<usize>]) {
-        for death in &layout.left.deaths {
-            self.take_back(&layout.network, death);
+        for removal in &layout.domains.removed {
+            self.undo_removal(&layout.network, removal);
         }
-        for death in layout.left.deaths.iter().rev() {
-            if fixed_at(fixed, death.point).is_none() {
-                self.lift_one(arcs, &layout.network, death);
+        for removal in layout.domains.removed.iter().rev() {
+            if fixed_at(fixed, removal.point).is_none() {
+                self.lift_one(arcs, &layout.network, removal);
             }
         }
     }
 
     /// Shifts nothing of one.
-    fn take_back(&mut self, network: &Network, death: &Death) {
-        for end in network.of_point(death.point) {
-            self.nets.put(*end, death.setting, 0);
-            self.lifts.put(*end, death.setting, 0);
+    fn undo_removal(&mut self, network: &Network, removal: &Removal) {
+        for end in network.of_point(removal.point) {
+            self.nets.put(*end, removal.setting, 0);
+            self.lifts.put(*end, removal.setting, 0);
         }
     }
 
     /// Lifts one, where the later ones were lifted. One that a point alone cannot have costs enough there already.
-    fn lift_one(&mut self, arcs: &[ArcTable], network: &Network, death: &Death) {
+    fn lift_one(&mut self, arcs: &[ArcTable], network: &Network, removal: &Removal) {
         let mut sum = self.lift.amount;
-        for end in network.of_point(death.point) {
-            if !death.is_at(*end) {
-                let need = self.needed(arcs, *end, death.setting);
+        for end in network.of_point(removal.point) {
+            if !removal.is_at(*end) {
+                let need = self.needed(arcs, *end, removal.setting);
                 self.nets
-                    .put(*end, death.setting, 0i64.saturating_sub(need));
+                    .put(*end, removal.setting, 0i64.saturating_sub(need));
                 sum = sum.saturating_add(need);
             }
         }
-        if let Some(end) = death.end {
-            self.nets.put(end, death.setting, sum);
-            self.lifts.put(end, death.setting, sum);
+        if let Some(end) = removal.end {
+            self.nets.put(end, removal.setting, sum);
+            self.lifts.put(end, removal.setting, sum);
         }
     }
 
@@ -125,7 +125,7 @@ impl Lifting {
             };
             if asked > most {
                 let price = end.price(arcs, setting, *partner);
-                if price < FAR {
+                if price < INFINITE_COST {
                     most = most.max(if is_lifted {
                         asked
                     } else {
@@ -148,9 +148,9 @@ fn known_settings(alloc: Global, layout: &Layout) -> Result<Vec<Vec<usize>>, All
         }
         known.push(row)?;
     }
-    for death in &layout.left.deaths {
-        if death.point < known.len() {
-            known[death.point].push(death.setting)?;
+    for removal in &layout.domains.removed {
+        if removal.point < known.len() {
+            known[removal.point].push(removal.setting)?;
         }
     }
     Ok(known)

@@ -4,7 +4,7 @@ use crate::network::{End, Network};
 use crate::numbers::{
     add_small, nearest_small, number_at, put, small_at, small_row_at, small_zeros,
 };
-use crate::shares::{Shares, share_of};
+use crate::splitter::{Splitter, share_of};
 use crate::tables::Tables;
 use std::alloc::{AllocError, Global};
 
@@ -33,9 +33,9 @@ impl Carried {
 
     /// Holds what the arc costs at least by the settings of the near point, less the share of a turn. Answers whether that is
     /// another amount than before at some setting.
-    fn hold(&mut self, costs: &[i32], shares: &Shares, turn: i32) -> bool {
+    fn hold(&mut self, costs: &[i32], splitter: &Splitter, turn: i32) -> bool {
         let mut changes = 0;
-        let parts = shares.parts.iter().zip(shares.more.as_slice());
+        let parts = splitter.parts.iter().zip(splitter.more.as_slice());
         for ((held, cost), (part, more)) in self.held.iter_mut().zip(costs).zip(parts) {
             let rest = cost.wrapping_sub(share_of(*part, *more, turn));
             changes |= *held ^ rest;
@@ -45,9 +45,9 @@ impl Carried {
     }
 
     /// Holds less, by the share of a turn. Answers whether that is less at some setting.
-    fn lower(&mut self, shares: &Shares, turn: i32) -> bool {
+    fn lower(&mut self, splitter: &Splitter, turn: i32) -> bool {
         let mut changes = 0;
-        let parts = shares.parts.iter().zip(shares.more.as_slice());
+        let parts = splitter.parts.iter().zip(splitter.more.as_slice());
         for (held, (part, more)) in self.held.iter_mut().zip(parts) {
             let rest = held.wrapping_sub(share_of(*part, *more, turn));
             changes |= *held ^ rest;
@@ -239,12 +239,12 @@ impl Messages {
         tables: &Tables,
         end: End,
         costs: &[i32],
-        shares: &Shares,
+        splitter: &Splitter,
         turn: i32,
     ) -> bool {
         if end.at < self.arcs.len() && end.other < self.incoming.len() {
             let carried = &mut self.arcs[end.at];
-            if !carried.hold(costs, shares, turn) {
+            if !carried.hold(costs, splitter, turn) {
                 return false;
             }
             let prices = carried.prices();
@@ -260,12 +260,12 @@ impl Messages {
         &mut self,
         tables: &Tables,
         end: End,
-        shares: &Shares,
+        splitter: &Splitter,
         turn: i32,
     ) -> bool {
         if end.at < self.arcs.len() && end.other < self.incoming.len() {
             let carried = &mut self.arcs[end.at];
-            if !carried.lower(shares, turn) {
+            if !carried.lower(splitter, turn) {
                 return false;
             }
             let prices = carried.prices();

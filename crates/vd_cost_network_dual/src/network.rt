@@ -1,6 +1,6 @@
 //! Points and the arcs between them, as points see them. Each point is named by its place in the order of sweeps.
 
-use crate::numbers::FAR;
+use crate::numbers::INFINITE_COST;
 use crate::order::Order;
 use std::alloc::{AllocError, Global};
 use vd_cost_network_prefix::ArcTable;
@@ -43,26 +43,26 @@ impl End {
         (self.other > self.point) == forward
     }
 
-    /// What the arc costs where this end is at one setting and the other at another; `FAR` where these do not join.
+    /// What the arc costs where this end is at one setting and the other at another; `INFINITE_COST` where these do not join.
     pub fn price(self, arcs: &[ArcTable], here: usize, there: usize) -> i64 {
         match arcs.get(self.at) {
             Some(arc) => match self.side {
                 Side::First => cell(arc, here, there),
                 Side::Second => cell(arc, there, here),
             },
-            None => FAR,
+            None => INFINITE_COST,
         }
     }
 }
 
-/// What an arc costs at these settings; `FAR` where they do not join.
+/// What an arc costs at these settings; `INFINITE_COST` where they do not join.
 fn cell(arc: &ArcTable, first: usize, second: usize) -> i64 {
     match arc.cells.as_slice().get(first) {
         Some(row) => match row.as_slice().get(second) {
             Some(Some(cost)) => *cost,
-            _ => FAR,
+            _ => INFINITE_COST,
         },
-        None => FAR,
+        None => INFINITE_COST,
     }
 }
 

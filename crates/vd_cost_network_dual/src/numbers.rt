@@ -11,13 +11,13 @@ pub const UNIT: i64 = 256;
 pub const UNIT_BITS: u32 = 8;
 
 /// More than any sum of costs in parts: what it would cost to do what cannot be done.
-pub const FAR: i64 = 1125899906842624;
+pub const INFINITE_COST: i64 = 1125899906842624;
 
 /// All that points and arcs cost together is no greater, in steps.
 pub(crate) const SMALL: i64 = 536_870_912;
 
 /// More than any such sum: what it would cost to do what cannot be done, in steps.
-pub(crate) const SMALL_FAR: i32 = 1_073_741_824;
+pub(crate) const INFINITE_STEPS: i32 = 1_073_741_824;
 
 /// The nearest small number.
 pub(crate) fn nearest_small(number: i64) -> i32 {

@@ -2,13 +2,13 @@
 //! then has above its least to the arcs that are ahead. A sweep visits a point again only where something changed that it is
 //! told, or that it costs.
 
-use crate::climb::{Keep, Reach};
+use crate::climb::{Limits, Observer};
 use crate::messages::Messages;
 use crate::nets::{Nets, count_at, spread};
 use crate::network::{End, Network};
 use crate::numbers::{settings_at, small_at, small_row_at};
 use crate::progress::{Ending, Progress};
-use crate::shares::{Shares, Split, split_at, splits};
+use crate::splitter::{Split, Splitter, split_at, splits};
 use crate::tables::Tables;
 use crate::witness::Witness;
 use std::alloc::{AllocError, Global};
@@ -23,7 +23,7 @@ pub struct State {
     backward: Messages,
     /// Whether the last sweep went forward.
     is_forward: bool,
-    shares: Shares,
+    splitter: Splitter,
     /// By point: how what it gives is split in sweeps forward, and in those backward.
     splits: Vec<Option<Split>>,
     splits_back: Vec<Option<Split>>,
@@ -45,7 +45,7 @@ impl State {
             forward: Messages::nothing(alloc, tables, network, true)?,
             backward: Messages::nothing(alloc, tables, network, false)?,
             is_forward: true,
-            shares: Shares::room(alloc, most)?,
+            splitter: Splitter::room(alloc, most)?,
             splits: splits(alloc, network, true)?,
             splits_back: splits(alloc, network, false)?,
             besides: 0,
@@ -66,7 +66,7 @@ impl State {
     ) -> Result<State, AllocError> {
         let mut state = State::of(alloc, tables, network, most)?;
         if forward {
-            state.shares.begin_turns();
+            state.splitter.begin_turns();
         }
         state.hold_all(tables, network, settings, nets, forward);
         Ok(state)
@@ -204,7 +204,7 @@ impl State {
     /// One sweep, over the points that wait for it.
     pub fn sweep(&mut self, tables: &Tables, network: &Network, forward: bool) {
         self.is_forward = forward;
-        self.shares.turn();
+        self.splitter.turn();
         let points = network.by_point.len();
         for step in 0..points {
             let point = if forward { step } else { points - 1 - step };
@@ -224,7 +224,7 @@ impl State {
         let ahead = network.ahead(point, self.is_forward);
         if self.is_forward {
             visit(
-                &mut self.shares,
+                &mut self.splitter,
                 &mut self.forward,
                 &mut self.backward,
                 tables,
@@ -234,7 +234,7 @@ impl State {
             );
         } else {
             visit(
-                &mut self.shares,
+                &mut self.splitter,
                 &mut self.backward,
                 &mut self.forward,
                 tables,
@@ -247,14 +247,14 @@ impl State {
 
     /// A sweep backward over all points, in which each gives all that it has above its least to its arc to the nearest point
     /// before it.
-    pub fn send_home(&mut self, tables: &Tables, network: &Network) {
-        self.come_back(tables, network);
+    pub fn give_to_nearest(&mut self, tables: &Tables, network: &Network) {
+        self.sweep_backward(tables, network);
         let points = network.by_point.len();
         for step in 0..points {
             let point = points - 1 - step;
             self.backward.take(point);
             send_back(
-                &mut self.shares,
+                &mut self.splitter,
                 &mut self.backward,
                 &mut self.forward,
                 tables,
@@ -283,7 +283,7 @@ impl State {
                 Some(Some(setting)) => *setting,
                 _ => self.best_setting(network, point),
             };
-            cost = cost.saturating_add(self.shares.sum_at(setting));
+            cost = cost.saturating_add(self.splitter.sum_at(setting));
             list.push(setting)?;
         }
         Ok(Witness::of(list, cost))
@@ -293,57 +293,57 @@ impl State {
     /// it; behind a sweep forward, with what it holds of these.
     fn best_setting(&mut self, network: &Network, point: usize) -> usize {
         if !self.is_forward {
-            return self.shares.best(self.backward.incoming(point));
+            return self.splitter.best(self.backward.incoming(point));
         }
-        self.shares.begin_with_nothing();
+        self.splitter.begin_with_nothing();
         for end in network.ahead(point, true) {
-            self.shares.add(self.forward.held(end.at));
+            self.splitter.add(self.forward.held(end.at));
         }
-        self.shares.best_with_more()
+        self.splitter.best_with_more()
     }
 
     /// Sums up what a point costs by its settings together with its arcs to the points before it, which stand in a list.
     fn sum_prices(&mut self, tables: &Tables, ends: &[End], point: usize, list: &[usize]) {
-        self.shares
+        self.splitter
             .begin_sums(small_row_at(tables.costs.as_slice(), point));
         for end in ends {
             if let Some(there) = list.get(end.other) {
-                self.shares
+                self.splitter
                     .sum(small_row_at(tables.rows(end.turned()), *there));
             }
         }
     }
 
-    /// Sweeps either way by turns, until a list costs no more than the bound, or little enough more for the reach, until the bound
-    /// does not rise any more, or the reach ends. Answers why it ended; the cheapest list that it met is put in the place of a dearer
+    /// Sweeps either way by turns, until a list costs no more than the bound, or little enough more for the limits, until the bound
+    /// does not rise any more, or a limit is reached. Answers why it ended; the cheapest list that it met is put in the place of a dearer
     /// one.
-    pub fn climb<K: Keep>(
+    pub fn climb<O: Observer>(
         &mut self,
         alloc: Global,
         tables: &Tables,
         network: &Network,
-        reach: Reach,
+        limits: Limits,
         witness: &mut Witness,
-        kept: &mut K,
+        observer: &mut O,
     ) -> Result<Ending, AllocError> {
         let mut progress = Progress::none();
-        for turn in 0..reach.sweeps {
+        for turn in 0..limits.sweeps {
             let forward = !self.is_forward;
-            if reach.visits_all {
+            if limits.visits_all {
                 self.wake_all(network);
             }
             self.sweep(tables, network, forward);
             if progress.note(self.bound()) {
-                kept.keep(self, tables, network);
+                observer.observe(self, tables, network);
             }
-            if reach.reads(turn, forward) {
+            if limits.reads(turn, forward) {
                 witness.take_cheaper(self.decoded(alloc, tables, network, &[])?);
             }
-            let aim = reach.aim(witness.cost, tables.bits);
-            if let Some(ending) = progress.ending(aim, reach.patience) {
+            let aim = limits.aim(witness.cost, tables.bits);
+            if let Some(ending) = progress.ending(aim, limits.patience) {
                 return Ok(ending);
             }
-            if self.work() >= reach.work {
+            if self.work() >= limits.work {
                 break;
             }
         }
@@ -351,7 +351,7 @@ impl State {
     }
 
     /// A sweep backward, where the last one went forward.
-    pub fn come_back(&mut self, tables: &Tables, network: &Network) {
+    pub fn sweep_backward(&mut self, tables: &Tables, network: &Network) {
         if self.is_forward {
             self.sweep(tables, network, false);
         }
@@ -376,7 +376,7 @@ fn work_of(costs: &[i32], ends: &[End]) -> u64 {
 
 /// What a sweep does at a point, which has these ends of arcs ahead.
 fn visit(
-    shares: &mut Shares,
+    splitter: &mut Splitter,
     here: &mut Messages,
     back: &mut Messages,
     tables: &Tables,
@@ -386,35 +386,35 @@ fn visit(
 ) {
     let costs = small_row_at(tables.costs.as_slice(), point);
     here.count(work_of(costs, ahead));
-    shares.sum_up(costs, here.incoming(point), back.incoming(point));
-    let least = shares.least();
+    splitter.sum_up(costs, here.incoming(point), back.incoming(point));
+    let least = splitter.least();
     here.note(point, least);
     if let Some(split) = split {
-        shares.split(split, least);
-        give_all(shares, here, back, tables, ahead);
+        splitter.split(split, least);
+        give_all(splitter, here, back, tables, ahead);
     }
 }
 
 /// Gives their shares to the arcs that are ahead.
 fn give_all(
-    shares: &Shares,
+    splitter: &Splitter,
     here: &mut Messages,
     back: &mut Messages,
     tables: &Tables,
     ahead: &[End],
 ) {
-    let Some(mut turn) = shares.first_turn() else {
+    let Some(mut turn) = splitter.first_turn() else {
         return;
     };
     for end in ahead {
-        give(shares, here, back, tables, *end, turn);
-        turn = shares.turn_after(turn);
+        give(splitter, here, back, tables, *end, turn);
+        turn = splitter.turn_after(turn);
     }
 }
 
 /// The same, where all goes to the arc to the nearest point before it.
 fn send_back(
-    shares: &mut Shares,
+    splitter: &mut Splitter,
     here: &mut Messages,
     back: &mut Messages,
     tables: &Tables,
@@ -426,21 +426,21 @@ fn send_back(
     };
     let costs = small_row_at(tables.costs.as_slice(), point);
     here.count(work_of(costs, ends));
-    shares.begin(costs);
+    splitter.begin(costs);
     for end in ends {
         if end.is_ahead(false) {
-            shares.add(here.held(end.at));
+            splitter.add(here.held(end.at));
         } else {
-            shares.add(here.told(end.at));
+            splitter.add(here.told(end.at));
         }
     }
-    let least = shares.least();
+    let least = splitter.least();
     here.note(point, least);
-    shares.split(Split::whole(), least);
-    let Some(turn) = shares.first_turn() else {
+    splitter.split(Split::whole(), least);
+    let Some(turn) = splitter.first_turn() else {
         return;
     };
-    if here.give_back(tables, nearest, shares, turn) {
+    if here.give_back(tables, nearest, splitter, turn) {
         here.wake(nearest.other);
         back.wake(nearest.other);
     }
@@ -448,14 +448,14 @@ fn send_back(
 
 /// Gives the share of a turn to the arc of an end, and wakes the other point where it is told something else by that.
 fn give(
-    shares: &Shares,
+    splitter: &Splitter,
     here: &mut Messages,
     back: &mut Messages,
     tables: &Tables,
     end: End,
     turn: i32,
 ) {
-    if here.give(tables, end, back.told(end.at), shares, turn) {
+    if here.give(tables, end, back.told(end.at), splitter, turn) {
         here.wake(end.other);
         back.wake(end.other);
     }

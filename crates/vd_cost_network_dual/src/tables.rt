@@ -1,7 +1,7 @@
 //! What points and arcs cost by the settings that are left, in steps: parts of a unit, or so many bits more where costs are great.
 
 use crate::network::{End, Network, Side};
-use crate::numbers::{FAR, SMALL, SMALL_FAR, add_small, nearest_small, settings_at};
+use crate::numbers::{INFINITE_COST, INFINITE_STEPS, SMALL, add_small, nearest_small, settings_at};
 use crate::order::Order;
 use std::alloc::{AllocError, Global};
 use vd_cost_network_prefix::{ArcTable, NetworkTables, PointTable};
@@ -9,7 +9,7 @@ use vd_cost_network_prefix::{ArcTable, NetworkTables, PointTable};
 /// A step has at most so many bits more than a part of a unit: more than the limits of sources ever ask for.
 const MOST_BITS: u32 = 32;
 
-/// What an arc costs by the settings that are left at both ends: a row for each setting at one end, with `SMALL_FAR` where two
+/// What an arc costs by the settings that are left at both ends: a row for each setting at one end, with `INFINITE_STEPS` where two
 /// settings do not join.
 #[derive(Drop)]
 struct Prices {
@@ -149,7 +149,7 @@ fn greatest_cost(points: &[PointTable], point: usize, left: &[usize]) -> i64 {
     let mut greatest = 0;
     for setting in left {
         let cost = cost_at(points, point, *setting);
-        if cost < FAR {
+        if cost < INFINITE_COST {
             greatest = cost.max(greatest);
         }
     }
@@ -163,7 +163,7 @@ fn greatest_price(arcs: &[ArcTable], end: End, settings: &[Vec<usize>]) -> i64 {
     for here in settings_at(settings, end.point) {
         for there in partners {
             let price = end.price(arcs, *here, *there);
-            if price < FAR {
+            if price < INFINITE_COST {
                 greatest = price.max(greatest);
             }
         }
@@ -173,10 +173,10 @@ fn greatest_price(arcs: &[ArcTable], end: End, settings: &[Vec<usize>]) -> i64 {
 
 /// A cost or a price in steps.
 fn in_steps(amount: i64, bits: u32) -> i32 {
-    if amount < FAR {
+    if amount < INFINITE_COST {
         nearest_small(amount.wrapping_shr(bits))
     } else {
-        SMALL_FAR
+        INFINITE_STEPS
     }
 }
 
@@ -185,9 +185,9 @@ fn cost_at(points: &[PointTable], point: usize, setting: usize) -> i64 {
     match points.get(point) {
         Some(table) => match table.costs.as_slice().get(setting) {
             Some(cost) => *cost,
-            None => FAR,
+            None => INFINITE_COST,
         },
-        None => FAR,
+        None => INFINITE_COST,
     }
 }
 

@@ -1,6 +1,6 @@
 //! Lists that are known.
 
-use crate::numbers::SMALL_FAR;
+use crate::numbers::INFINITE_STEPS;
 use std::alloc::Global;
 
 /// A list of settings, one for each point, and what it costs in steps: `i64::MAX` where an arc does not join.
@@ -21,7 +21,7 @@ impl Witness {
 
     /// A list, with what it costs: no list where that is too much for arcs that join.
     pub fn of(settings: Vec<usize>, cost: i64) -> Witness {
-        let joins = cost < i64::from(SMALL_FAR);
+        let joins = cost < i64::from(INFINITE_STEPS);
         Witness {
             settings,
             cost: if joins { cost } else { i64::MAX },

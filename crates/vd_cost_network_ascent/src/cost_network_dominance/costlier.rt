@@ -18,7 +18,7 @@ pub(crate) struct Costlier {
 #[derive(Drop)]
 pub(crate) struct Thinning {
     /// By point and setting.
-    pub(crate) left: Vec<Vec<bool>>,
+    pub(crate) live: Vec<Vec<bool>>,
     /// Those that went, in this order.
     pub(crate) gone: Vec<Costlier>,
     /// By point: whether a partner has lost a setting since it was looked at.
@@ -31,12 +31,12 @@ impl Thinning {
         tables: &Tables,
         network: &Network,
     ) -> Result<Thinning, AllocError> {
-        let mut left = Vec::with_capacity(alloc, tables.costs.len())?;
+        let mut live = Vec::with_capacity(alloc, tables.costs.len())?;
         for costs in &tables.costs {
-            left.push(vec![in alloc; true; costs.len()]?)?;
+            live.push(vec![in alloc; true; costs.len()]?)?;
         }
         let mut thinning = Thinning {
-            left,
+            live,
             gone: Vec::new(alloc),
             is_waiting: vec![in alloc; true; tables.costs.len()]?,
         };
@@ -94,12 +94,12 @@ impl Thinning {
         let count = costs.len();
         let mut differences = Differences::of(alloc, costs.as_slice())?;
         for end in network.of_point(point) {
-            differences.add(tables, *end, self.left_of(point), self.left_of(end.other))?;
+            differences.add(tables, *end, self.live_of(point), self.live_of(end.other))?;
         }
         let mut has_changed = false;
         for back in 0..count {
             let number = count - 1 - back;
-            if self.is_left(point, number) && differences.is_costlier(number, self.left_of(point)) {
+            if self.is_live(point, number) && differences.is_costlier(number, self.live_of(point)) {
                 self.let_go(point, number)?;
                 has_changed = true;
             }
@@ -108,22 +108,22 @@ impl Thinning {
     }
 
     /// Which settings of a point are left.
-    fn left_of(&self, point: usize) -> &[bool] {
-        match self.left.get(point) {
+    fn live_of(&self, point: usize) -> &[bool] {
+        match self.live.get(point) {
             Some(row) => row.as_slice(),
             None => &[],
         }
     }
 
     /// Whether a setting of a point is left.
-    fn is_left(&self, point: usize, number: usize) -> bool {
-        self.left_of(point).get(number) == Some(&true)
+    fn is_live(&self, point: usize, number: usize) -> bool {
+        self.live_of(point).get(number) == Some(&true)
     }
 
     /// Lets a setting of a point go.
     fn let_go(&mut self, point: usize, number: usize) -> Result<(), AllocError> {
-        if point < self.left.len() {
-            unset(&mut self.left[point], number);
+        if point < self.live.len() {
+            unset(&mut self.live[point], number);
         }
         self.gone.push(Costlier { point, number })?;
         Ok(())

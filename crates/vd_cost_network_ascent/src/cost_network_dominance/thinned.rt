@@ -2,7 +2,7 @@
 
 use crate::cost_network_dominance::costlier::{Costlier, Thinning};
 use std::alloc::{AllocError, Global};
-use vd_cost_network_dual::{End, FAR, Nets, Network, Tables, number_at, settings_at};
+use vd_cost_network_dual::{End, INFINITE_COST, Nets, Network, Tables, number_at, settings_at};
 use vd_cost_network_prefix::ArcTable;
 
 /// A setting that is not left, among all that its point has.
@@ -31,7 +31,7 @@ impl Thinned {
     ) -> Result<Thinned, AllocError> {
         let thinning = Thinning::of(alloc, tables, network)?;
         let mut kept = Vec::with_capacity(alloc, settings.len())?;
-        for (all, left) in settings.iter().zip(&thinning.left) {
+        for (all, left) in settings.iter().zip(&thinning.live) {
             kept.push(kept_of(alloc, all.as_slice(), left.as_slice())?)?;
         }
         let mut gone = Vec::with_capacity(alloc, thinning.gone.len())?;
@@ -126,16 +126,16 @@ fn least_after(
 ) -> i64 {
     let there = end.turned();
     let amounts = nets.row(there);
-    let mut least = FAR;
+    let mut least = INFINITE_COST;
     if let Some(marks) = has_shifts.get(there.point) {
         for (partner, has_one) in marks.iter().enumerate() {
             if *has_one {
                 let price = end.price(arcs, setting, partner);
-                if price < FAR {
+                if price < INFINITE_COST {
                     least = least.min(price.saturating_sub(number_at(amounts, partner)));
                 }
             }
         }
     }
-    if least < FAR { least } else { 0 }
+    if least < INFINITE_COST { least } else { 0 }
 }

@@ -2,7 +2,7 @@
 
 use std::alloc::{AllocError, Global};
 use vd_cost_network_dual::{
-    Ending, Keep, Layout, Lift, Lifting, Nets, Network, Reach, State, Tables, UNIT, UNIT_BITS,
+    Ending, Layout, Lift, Lifting, Limits, Nets, Network, Observer, State, Tables, UNIT, UNIT_BITS,
     Witness,
 };
 use vd_cost_network_prefix::NetworkTables;
@@ -19,8 +19,8 @@ struct Level {
 impl Level {
     /// Each sweep visits all slots, and a list is read off behind each second sweep forward. Costs are whole units, so a list that
     /// costs less than a unit more than the bound costs least.
-    fn reach(self) -> Reach {
-        Reach {
+    fn limits(self) -> Limits {
+        Limits {
             sweeps: self.sweeps,
             work: u64::MAX,
             patience: 12,
@@ -79,8 +79,8 @@ impl<'a> Greatest<'a> {
     }
 }
 
-impl<'a> Keep for Greatest<'a> {
-    fn keep(&mut self, state: &State, tables: &Tables, network: &Network) {
+impl<'a> Observer for Greatest<'a> {
+    fn observe(&mut self, state: &State, tables: &Tables, network: &Network) {
         state.write_nets(tables, network, self.settings, &[], &mut self.nets);
     }
 }
@@ -120,7 +120,7 @@ fn lifted(
     nets: &Nets,
 ) -> Result<Nets, AllocError> {
     let mut state = layout.state(alloc, tables, nets, false)?;
-    state.send_home(tables, &layout.network);
+    state.give_to_nearest(tables, &layout.network);
     let mut lifting = Lifting::of(alloc, layout, LIFT)?;
     lifting.write(&state, tables, by_uses.arcs.as_slice(), layout, &[]);
     Ok(lifting.into_nets())
@@ -164,7 +164,7 @@ fn climbed_from(
         alloc,
         &tables,
         &layout.network,
-        level.reach(),
+        level.limits(),
         &mut witness,
         &mut kept,
     )?;

@@ -5,7 +5,7 @@ ghost use Rattle.vd_space.specs.WellFormed.{AreProtocols};
 
 use std::alloc::{AllocError, Global};
 use vd_base::{Items, Proto, SlotId};
-use vd_cost_network_dual::{NOTHING_LEFT, UNIT};
+use vd_cost_network_dual::{FORBIDDEN_COST, UNIT};
 use vd_cost_network_prefix::{ArcTable, NetworkTables, PointTable};
 use vd_space::{Problem, Use};
 use vd_space_tables::{merged_values, move_prices};
@@ -58,7 +58,7 @@ fn costs_of(alloc: Global, values: &[Option<i64>]) -> Result<Items<i64>, AllocEr
 fn cost_of(value: Option<i64>) -> i64 {
     match value {
         Some(value) => value.saturating_mul(UNIT),
-        None => NOTHING_LEFT,
+        None => FORBIDDEN_COST,
     }
 }
 

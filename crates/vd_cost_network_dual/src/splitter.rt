@@ -1,7 +1,7 @@
 //! What a point costs by its settings, and how what is above the least is split over its arcs.
 
 use crate::network::Network;
-use crate::numbers::{SMALL_FAR, number_at, put, small_at, small_zeros, zeros};
+use crate::numbers::{INFINITE_STEPS, number_at, put, small_at, small_zeros, zeros};
 use std::alloc::{AllocError, Global};
 
 /// How what a point gives is split over the arcs that are ahead: in equal parts for all of them, and for as many behind.
@@ -85,7 +85,7 @@ pub(crate) fn split_at(splits: &[Option<Split>], point: usize) -> Option<Split> 
 
 /// What a point costs by its settings, and what of it goes to its arcs.
 #[derive(Drop)]
-pub(crate) struct Shares {
+pub(crate) struct Splitter {
     /// How many settings the point has.
     count: usize,
     totals: Vec<i32>,
@@ -101,10 +101,10 @@ pub(crate) struct Shares {
     turn: u32,
 }
 
-impl Shares {
+impl Splitter {
     /// Room for points of so many settings.
-    pub fn room(alloc: Global, most: usize) -> Result<Shares, AllocError> {
-        Ok(Shares {
+    pub fn room(alloc: Global, most: usize) -> Result<Splitter, AllocError> {
+        Ok(Splitter {
             count: 0,
             totals: small_zeros(alloc, most)?,
             parts: small_zeros(alloc, most)?,
@@ -238,14 +238,14 @@ pub(crate) fn share_of(part: i32, more: i32, turn: i32) -> i32 {
     part.wrapping_sub(minus_one_below(turn, more))
 }
 
-/// -1 where the number is less than the other, and else 0, of numbers from 0 to `SMALL_FAR`: all bits are that of the sign.
+/// -1 where the number is less than the other, and else 0, of numbers from 0 to `INFINITE_STEPS`: all bits are that of the sign.
 fn minus_one_below(number: i32, other: i32) -> i32 {
     number.wrapping_sub(other) >> 31
 }
 
-/// The number, or `SMALL_FAR` where it is greater.
+/// The number, or `INFINITE_STEPS` where it is greater.
 fn number_of(number: u32) -> i32 {
-    number.min(SMALL_FAR as u32) as i32
+    number.min(INFINITE_STEPS as u32) as i32
 }
 
 /// So many, or the greatest number of 32 bits where there are more.

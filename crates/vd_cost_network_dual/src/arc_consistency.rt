@@ -1,7 +1,8 @@
-//! Which settings are left, where those go that can stand in no valid list: each that has no partner at one of its arcs.
+//! Arc consistency, with a queue of points: which settings are left, where those go that can stand in no valid list: each that
+//! has no partner at one of its arcs.
 
 use crate::network::{End, Network};
-use crate::numbers::FAR;
+use crate::numbers::INFINITE_COST;
 use crate::order::Order;
 use std::alloc::{AllocError, Global};
 use std::collections::VecDeque;
@@ -10,18 +11,18 @@ use vd_cost_network_prefix::{ArcTable, NetworkTables, PointTable, SwitchTable};
 use vd_space::Problem;
 
 /// What a point costs that cannot be at a setting, in parts.
-pub const NOTHING_LEFT: i64 = 256_000_000_000;
+pub const FORBIDDEN_COST: i64 = 256_000_000_000;
 
 /// A setting that is not left.
 #[derive(Clone, Copy, PartialEq, Eq)]
-pub struct Death {
+pub struct Removal {
     pub point: usize,
     pub setting: usize,
     /// Where it has no partner left; none where the point alone cannot be there.
     pub end: Option<End>,
 }
 
-impl Death {
+impl Removal {
     /// Whether it went at this end of an arc.
     pub fn is_at(&self, end: End) -> bool {
         match self.end {
@@ -31,17 +32,18 @@ impl Death {
     }
 }
 
+/// The settings at which points may be.
 #[derive(Drop)]
-pub struct Left {
+pub struct Domains {
     /// Whether a point may be at a setting.
     pub live: Vec<Vec<bool>>,
     /// Those that went, in this order.
-    pub deaths: Vec<Death>,
+    pub removed: Vec<Removal>,
     /// No point has more settings.
     pub most: usize,
 }
 
-impl Left {
+impl Domains {
     /// What is left of the settings of a problem's points, by the tables without shifts; and by the places at which the slots
     /// may stand.
     pub(crate) fn of(
@@ -51,27 +53,27 @@ impl Left {
         candidates: &[Items<bool>],
         network: &Network,
         order: &Order,
-    ) -> Result<Left, AllocError> {
-        let mut left = Left {
+    ) -> Result<Domains, AllocError> {
+        let mut domains = Domains {
             live: Vec::new(alloc),
-            deaths: Vec::new(alloc),
+            removed: Vec::new(alloc),
             most: 0,
         };
         let switches = tables.switches.as_slice();
         for point in &order.points {
             if let Some(table) = tables.points.as_slice().get(*point) {
                 match candidates.get(*point) {
-                    Some(tests) => left.put_point(alloc, table, tests.as_slice())?,
+                    Some(tests) => domains.put_point(alloc, table, tests.as_slice())?,
                     None => {
                         let number = point.saturating_sub(candidates.len());
                         let may_be_off = !is_told(problem, switches, number);
-                        left.put_point(alloc, table, &[may_be_off, true])?;
+                        domains.put_point(alloc, table, &[may_be_off, true])?;
                     }
                 }
             }
         }
-        left.prune_all(alloc, tables.arcs.as_slice(), network)?;
-        Ok(left)
+        domains.prune_all(alloc, tables.arcs.as_slice(), network)?;
+        Ok(domains)
     }
 
     /// Adds a point with these costs, where tests say at which settings it may be. One that costs too much goes at once.
@@ -84,9 +86,9 @@ impl Left {
         let point = self.live.len();
         let mut row = Vec::new(alloc);
         for (cost, test) in table.costs.as_slice().iter().zip(tests) {
-            let is_too_dear = *cost >= NOTHING_LEFT;
+            let is_too_dear = *cost >= FORBIDDEN_COST;
             if *test && is_too_dear {
-                self.deaths.push(Death {
+                self.removed.push(Removal {
                     point,
                     setting: row.len(),
                     end: None,
@@ -128,7 +130,7 @@ impl Left {
         let mut has_changed = false;
         for setting in 0..self.most {
             if self.is_live(end.point, setting) && !self.has_partner(arcs, end, setting) {
-                self.kill(end, setting)?;
+                self.remove(end, setting)?;
                 has_changed = true;
             }
         }
@@ -146,7 +148,9 @@ impl Left {
     /// Whether a setting that is left for the other point joins the setting.
     fn has_partner(&self, arcs: &[ArcTable], end: End, setting: usize) -> bool {
         for partner in 0..self.most {
-            if self.is_live(end.other, partner) && end.price(arcs, setting, partner) < FAR {
+            if self.is_live(end.other, partner)
+                && end.price(arcs, setting, partner) < INFINITE_COST
+            {
                 return true;
             }
         }
@@ -154,11 +158,11 @@ impl Left {
     }
 
     /// Lets the setting of the point go.
-    fn kill(&mut self, end: End, setting: usize) -> Result<(), AllocError> {
+    fn remove(&mut self, end: End, setting: usize) -> Result<(), AllocError> {
         if end.point < self.live.len() {
             unset(&mut self.live[end.point], setting);
         }
-        self.deaths.push(Death {
+        self.removed.push(Removal {
             point: end.point,
             setting,
             end: Some(end),
