@@ -9,6 +9,7 @@ use vd_space::Problem;
 use vd_space_prefix::Tables;
 
 /// The tables of a problem by which a search by arcs goes.
+#[derive(Drop)]
 pub(crate) struct ArcTables<'a> {
     pub problem: &'a Problem,
     /// Without shifts.
