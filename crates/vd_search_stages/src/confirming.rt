@@ -1,6 +1,6 @@
 //! The check of a certificate for a problem.
 
-ghost use Rattle.std.specs.Prelude.{◌≡◌, ◌<◌, IsFalse, false, length, true};
+ghost use Rattle.std.specs.Prelude.{◌≡◌, ◌<◌, IsFalse, false, length};
 ghost use Rattle.vd_space.specs.Arcs.{arcs};
 ghost use Rattle.vd_search_stages.specs.Confirming.{AreNetworkTablesFor, AreTablesFor, Confirms, IsSmallCertificate};
 ghost use Rattle.vd_space.specs.Validity.{is_bare};
