@@ -2,7 +2,7 @@
 use Rattle.std.proofs.Common.{◌≡◌, ℕ, zero, suc, List, [], ◌∷◌, ◌++◌, Option, Some, slice_get, slice_set, refl}
 use Rattle.std.proofs.lemmas.Option.{none-some}
 use Rattle.vd_outside.specs.Spawner.{next_child}
-use Rattle.vd_fakes.specs.SureSpawner.{status_of}
+use Rattle.vd_fakes.specs.MemSpawner.{status_of}
 use Rattle.vd_outside.specs.declared.child.Child.{Child}
 
 -- the first of the children that wait is the next

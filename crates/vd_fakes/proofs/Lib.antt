@@ -5,4 +5,3 @@ mod Fresh
 mod Pieces
 mod Places
 mod Receiving
-mod Given

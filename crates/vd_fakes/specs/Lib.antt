@@ -8,5 +8,4 @@ pub mod MemNet
 pub mod MemSink
 pub mod MemSpawner
 pub mod SureLink
-pub mod SureNet
-pub mod SureSpawner
+pub mod Waiting

@@ -1,10 +1,9 @@
 -- A spawner in memory that fails at listed calls, and where no child is left.
-use Rattle.std.specs.Prelude.{◌≡◌, ◌||◌, ℕ, Bool, true, false, List, [], None, length, nat_lt, not, Result, Ok, Err}
+use Rattle.std.specs.Prelude.{◌≡◌, ◌||◌, ℕ, Bool, true, false, List, [], Option, None, option_map, slice_get, length, nat_lt, not, Result, Ok, Err}
 use Rattle.vd_base.specs.declared.faults.CallFault.{CallFault}
 use Rattle.vd_base.specs.declared.faults.CallFault.TheVariants as call_fault
 use Rattle.vd_fakes.specs.Failing.{failures_at, fails_next, with_call, with_fault}
 use Rattle.vd_outside.specs.Spawner.{SpawnerView}
-use Rattle.vd_fakes.specs.SureSpawner.{status_of}
 use Rattle.vd_outside.specs.declared.child.Child.{Child}
 use Rattle.vd_fakes.specs.declared.failures.Failures.{Failures}
 use Rattle.vd_outside.specs.declared.spawner.SpawnerCall.{SpawnerCall}
@@ -15,6 +14,10 @@ pub record MemSpawnerState : Type 0 where
   pub waiting : List Child
   pub asked : List SpawnerCall
   pub failures : Failures
+
+-- the status with which the child with this number ends
+abbrev pub status_of : List Child → ℕ → Option ℕ
+status_of children number = option_map (λ child. child.status) (slice_get children number)
 
 abbrev pub no_child_left : MemSpawnerState → Bool
 no_child_left spawner = not (nat_lt 0 (length spawner.waiting))

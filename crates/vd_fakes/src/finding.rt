@@ -1,7 +1,7 @@
 //! What stands in files in memory.
 
-ghost use Rattle.std.specs.Prelude.{◌≡◌, Some, IfOk};
-ghost use Rattle.vd_fakes.specs.Found.{found, found_or_empty};
+ghost use Rattle.std.specs.Prelude.{◌≡◌, IfOk};
+ghost use Rattle.vd_fakes.specs.Found.{found};
 ghost use Rattle.vd_outside.specs.Files.{fetched};
 
 use std::alloc::{AllocError, Global};
@@ -19,23 +19,6 @@ pub(crate) fn find(alloc: Global, files: &[Stored], name: &str) -> Result<Option
         }
     }
     Ok(None)
-}
-
-/// A copy of what stands at a name, and no bytes at a name with no file.
-pub(crate) fn find_or_empty(
-    alloc: Global,
-    files: &[Stored],
-    name: &str,
-) -> Result<Bytes, AllocError>
-    ensures { IfOk result (λ content. found_or_empty files.now name.now ≡ Some content) }
-{
-    for file in files {
-        if file.name.as_str().as_bytes() == name.as_bytes() {
-            let content = Bytes::from_slice(alloc, file.content.as_slice())?;
-            return Ok(content);
-        }
-    }
-    Ok(Bytes::new(alloc))
 }
 
 /// What was found, if it is no longer than the limit.

@@ -1,6 +1,6 @@
 ghost use Rattle.std.specs.Prelude.{◌≡◌, None, MatchOption};
 ghost use Rattle.vd_outside.specs.Net.{link_at, without_link_at};
-ghost use Rattle.vd_fakes.specs.SureNet.{FirstWaits, IsTakenOut, NoneWaits};
+ghost use Rattle.vd_fakes.specs.Waiting.{FirstWaits, IsTakenOut, NoneWaits};
 
 use vd_base::{Items, Text};
 
