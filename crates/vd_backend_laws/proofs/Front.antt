@@ -9,6 +9,6 @@ pub use Rattle.vd_backend_laws.proofs.Arrays.{index_at}
 pub use Rattle.vd_backend_laws.proofs.SuiteLaws.{input_stands, suite_laws}
 pub use Rattle.vd_backend_laws.proofs.SuitePlaces.{suite_places}
 pub use Rattle.vd_backend_laws.proofs.PlanTidy.{within}
-pub use Rattle.vd_backend_laws.proofs.PlanRuns.{goes_smoothly, runs_alike, turns_alike}
+pub use Rattle.vd_backend_laws.proofs.PlanRuns.{goes_smoothly, runs_alike, turns_alike, begun_is}
 pub use Rattle.vd_backend_laws.proofs.Whole.{code_runs_well, code_tells_the_same}
 pub use Rattle.vd_backend_laws.proofs.Given.{listed_protocols_are_over, zero_deals_are_valid}

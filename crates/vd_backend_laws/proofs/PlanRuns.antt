@@ -121,7 +121,7 @@ all_turns P f (suc n) k w each = (
 all_from_first : {W : Type 0} (P : ℕ → W → Type 0) (f : ℕ → W → W) (n : ℕ) (w : W) → ((i : ℕ) → i < n → P i (code_turns f i 0 w)) → AllTurns P f n 0 w
 all_from_first P f n w each = all_turns P f n 0 w (λ i lt. subst (λ z. P z (code_turns f i 0 w)) (omega arith) (each i lt))
 
-begun_is : (t : Tape) (inputs : ℕ → List ℕ) (ps : List Part) → Apart ps → (i : ℕ) (v : Hosts) → (machine t inputs).begun ps i v ≡ turn_begun ps i v
+pub begun_is : (t : Tape) (inputs : ℕ → List ℕ) (ps : List Part) → Apart ps → (i : ℕ) (v : Hosts) → (machine t inputs).begun ps i v ≡ turn_begun ps i v
 begun_is t inputs ps apart i v = fun_ext (λ h. begun_alike ps i h (v h) apart)
 
 module _ (t : Tape) (inputs : ℕ → List ℕ) (ps : List Part) (apart : Apart ps) (body : Plan Gadget) (inner : PlanIsTidy body) where

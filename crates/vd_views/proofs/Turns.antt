@@ -1,17 +1,16 @@
 -- Turns of a loop in two runs.
-use Rattle.std.proofs.Common.{◌≡◌, ℕ, zero, suc, ◌+◌, ◌<◌, ◌&&◌, nat_eq, Bool, true, false, if◌then◌else◌, List, [], ◌∷◌, inl, inr, refl, ap, subst, ◌∙◌, arith, rules}
+use Rattle.std.proofs.Common.{◌≡◌, ℕ, zero, suc, ◌+◌, ◌<◌, List, ap, subst, ◌∙◌, arith}
 use mathlib.Core.Path.{fun_ext}
 use Rattle.vd_semantics.specs.Turns.{turns}
-use Rattle.vd_execution.specs.Registers.{put, Registers}
 use Rattle.vd_execution.specs.World.{Tape}
-use Rattle.vd_execution.specs.Joint.{Hosts, Host, Part, Apart, TakesPart, if_part, turn_begun, joint as run_code, turns as code_turns}
+use Rattle.vd_execution.specs.Joint.{Hosts, Part, Apart, turn_begun, joint as run_code, turns as code_turns}
 use Rattle.vd_execution.specs.Gadgets.{Gadget}
 use Rattle.vd_execution.specs.Plans.{Plan, joint_of, PlanIsTidy}
 use Rattle.vd_views.specs.Views.{BothTurns}
 use Rattle.vd_views.specs.Plans.{run_turn}
 use Rattle.vd_split.specs.Joint.{joint}
-use Rattle.vd_backend_laws.specs.Machine.{machine, given_turn}
-use Rattle.vd_backend_laws.proofs.Front.{runs_alike, turns_alike}
+use Rattle.vd_backend_laws.specs.Machine.{machine}
+use Rattle.vd_backend_laws.proofs.Front.{runs_alike, turns_alike, begun_is}
 
 module _ (P : ℕ → Hosts → Hosts → Type 0) (f g : ℕ → Hosts → Hosts) where
   both_turns_from : (n k : ℕ) (w v : Hosts) → ((i : ℕ) → i < n → P (k + i) (code_turns f i k w) (code_turns g i k v)) → BothTurns P f g n k w v
@@ -32,39 +31,6 @@ module _ (P : ℕ → Hosts → Hosts → Type 0) (f g : ℕ → Hosts → Hosts
 
   pub each_turn : (n : ℕ) (w v : Hosts) → BothTurns P f g n 0 w v → (i : ℕ) → i < n → P i (code_turns f i 0 w) (code_turns g i 0 v)
   each_turn n w v b i lt = subst (λ z. P z (code_turns f i 0 w) (code_turns g i 0 v)) (omega arith) (each_turn_from n 0 w v b i lt)
-
--- ---- a turn begins, in both readings
-
-put_is : (f : Registers) (i a j : ℕ) → (if nat_eq j i then a else f j) ≡ put f i a j
-unfolding put
-put_is f i a j = refl
-
-not_among : (ps : List Part) (turn h : ℕ) (f : Registers) (r : ℕ) → (TakesPart ps h → ⊥) → given_turn ps turn h f r ≡ f r
-not_among [] turn h f r n = refl
-not_among (p ∷ ps) turn h f r n = ap (λ (b : Bool). if b && nat_eq r p.1 then turn else given_turn ps turn h f r) (differs h p.0 (λ e. n (inl e))) ∙ not_among ps turn h f r (λ i. n (inr i))
-  where
-    differs : (a b : ℕ) → (a ≡ b → ⊥) → nat_eq a b ≡ false
-    differs a b d = grind (arith, rules)
-
-equal_of : (a b : ℕ) → nat_eq a b ≡ true → a ≡ b
-equal_of a b e = grind (arith, rules)
-
-begun_alike : (ps : List Part) (turn h : ℕ) (s : Host) → Apart ps
-    → record s { registers = given_turn ps turn h s.registers } ≡ if_part ps h (λ counter. record s { registers = put s.registers counter turn }) s
-begun_alike [] turn h s apart = refl
-begun_alike (p ∷ ps) turn h s apart = at (begun_alike ps turn h s apart.1) (nat_eq h p.0) refl
-  where
-    at : record s { registers = given_turn ps turn h s.registers } ≡ if_part ps h (λ counter. record s { registers = put s.registers counter turn }) s
-        → (b : Bool) → nat_eq h p.0 ≡ b
-        → record s { registers = λ r. if b && nat_eq r p.1 then turn else given_turn ps turn h s.registers r }
-        ≡ (if b then record s { registers = put s.registers p.1 turn } else if_part ps h (λ counter. record s { registers = put s.registers counter turn }) s)
-    at again true e =
-        ap (λ (f : Registers). record s { registers = f })
-        (fun_ext (λ r. ap (λ z. if nat_eq r p.1 then turn else z) (not_among ps turn h s.registers r (λ i. apart.0 (subst (TakesPart ps) (equal_of h p.0 e) i))) ∙ put_is s.registers p.1 turn r))
-    at again false e = again
-
-pub begun_is : (t : Tape) (inputs : ℕ → List ℕ) (ps : List Part) → Apart ps → (i : ℕ) (v : Hosts) → (machine t inputs).begun ps i v ≡ turn_begun ps i v
-begun_is t inputs ps apart i v = fun_ext (λ h. begun_alike ps i h (v h) apart)
 
 module _ (t : Tape) (inputs : ℕ → List ℕ) (ps : List Part) (apart : Apart ps) (body : Plan Gadget) (tidy : PlanIsTidy body) where
   one_turn : (i : ℕ) (v : Hosts) → joint (machine t inputs) body ((machine t inputs).begun ps i v) ≡ run_turn ps body t i v

@@ -48,8 +48,9 @@ use Rattle.vd_views.proofs.Compose.{acts_on, acts_tidy, nothing_along}
 use Rattle.vd_views.proofs.Words.{one_off, regroup, right_off}
 use Rattle.vd_views.proofs.ViewsProgramsCalls.{same_run, picked_passes, when_both, same_alone, moved_tells, delivered_tells, word_tells, index_tells, right_tells}
 use Rattle.vd_views.proofs.Silent.{silent}
-use Rattle.vd_views.proofs.Turns.{both_turns, each_turn, begun_is, begun_at}
+use Rattle.vd_views.proofs.Turns.{both_turns, each_turn, begun_at}
 use Rattle.vd_views.proofs.Steps.{Static, static_first, static_other, static_body, static_behind, Concluded, acts_concluded, both_after, and_rest}
+use Rattle.vd_backend_laws.proofs.Front.{begun_is}
 
 -- ---- who is told a guard
 
