@@ -1,3 +1,2 @@
-mod Digests
 mod Puts
 mod Changes

@@ -1,7 +1,6 @@
 //! One run of hosts, act by act, over registers that grow as they are written and lists that are followed by zeros.
 #![tactic(auto)]
 
-mod digest;
 mod registers;
 mod run;
 mod side;

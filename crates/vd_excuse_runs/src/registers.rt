@@ -1,12 +1,14 @@
 //! The registers of a host: a list of words that grows as it is written. A register past its end holds 0.
 
 ghost use Rattle.std.specs.Prelude.{◌≡◌, ◌<◌, OnOk, slice_index, slice_set};
+ghost use Rattle.vd_execution.specs.Registers.{digest_of, words_from};
 ghost use Rattle.vd_semantics.specs.Stores.{put};
 ghost use Rattle.vd_excuse_runs.specs.Registers.{cell_of, cleared, put_each, put_from};
 
 use std::alloc::AllocError;
 use vd_base::Words;
 use vd_execution::Reg;
+use vd_machine::digest;
 
 /// The word of a register.
 pub(crate) fn read(registers: &Words, register: usize) -> u32
@@ -24,6 +26,13 @@ pub(crate) fn cell(registers: &Words, array: u32, count: u32, at: u32) -> u32
     } else {
         0
     }
+}
+
+/// The digest of eight registers' words and one more's.
+pub(crate) fn hashed(registers: &Words, nonce: u32, value: u32) -> [u32; 8]
+    ensures { result ≡ digest_of (words_from (slice_index registers.now) nonce 8) (slice_index registers.now value) }
+{
+    digest(registers.as_slice(), nonce, value)
 }
 
 /// A register gets a word.

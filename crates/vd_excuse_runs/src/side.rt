@@ -2,16 +2,15 @@
 
 ghost use Rattle.std.specs.Prelude.{◌≡◌, ◌<◌, ◌+◌, ◌^◌, [], IfOk, OnOk, slice_index, slice_index_or, length};
 ghost use Rattle.vd_tape.specs.Identities.{triple_at, pair_at};
-ghost use Rattle.vd_execution.specs.Registers.{applied};
 ghost use Rattle.vd_semantics.specs.Stores.{put};
 ghost use Rattle.vd_excuse_runs.specs.Registers.{put_in_cell, put_three, put_two};
 ghost use Rattle.vd_excuse_runs.specs.Sides.{bits_taken, counted, dealt_side, empty_side, further, has_heard, next_bits, next_pair, next_triple, pairs_taken, peer_of, performed, shared_bits, shared_pair, shared_triple, triples_taken, with_bits, with_pair, with_triple};
 
-use crate::digest::digest;
-use crate::registers::{cell, clear, read, write, write_each, write_from};
+use crate::registers::{cell, clear, hashed, read, write, write_each, write_from};
 use std::alloc::{AllocError, Global};
 use vd_base::{HostId, Items, Op, Words, combine};
-use vd_execution::{Action, Binary, Reg};
+use vd_execution::{Action, Reg};
+use vd_machine::apply;
 use vd_tape::{Deal, PairItem, Triple};
 
 /// How many items a host took of each list; who took one past the end of a list stays one past it.
@@ -36,27 +35,6 @@ pub struct Side {
     pub bits: Items<Triple>,
     pub pairs: Items<PairItem>,
     pub taken: Taken,
-}
-
-fn apply(operation: Binary, x: u32, y: u32) -> u32
-    ensures { result ≡ applied operation x y }
-{
-    match operation {
-        Binary::Add => combine(Op::Add, x, y, 0),
-        Binary::Sub => combine(Op::Sub, x, y, 0),
-        Binary::Mul => combine(Op::Mul, x, y, 0),
-        Binary::Div => combine(Op::Div, x, y, 0),
-        Binary::Rem => combine(Op::Rem, x, y, 0),
-        Binary::And => combine(Op::And, x, y, 0),
-        Binary::Or => combine(Op::Or, x, y, 0),
-        Binary::Xor => combine(Op::Xor, x, y, 0),
-        Binary::Eq => combine(Op::Eq, x, y, 0),
-        Binary::Ne => combine(Op::Ne, x, y, 0),
-        Binary::Lt => combine(Op::Lt, x, y, 0),
-        Binary::Le => combine(Op::Le, x, y, 0),
-        Binary::Min => combine(Op::Min, x, y, 0),
-        Binary::Max => combine(Op::Max, x, y, 0),
-    }
 }
 
 /// One item further, up to one past the end.
@@ -371,7 +349,7 @@ impl Side {
             }
             Action::Print(_) => Ok(()),
             Action::Hash(d, n, v) => {
-                let words = digest(&self.registers, n.0, v.0);
+                let words = hashed(&self.registers, n.0, v.0);
                 write_from(&mut self.registers, d.0 as usize, &words)
             }
             Action::Same(_, _) => Ok(()),

@@ -2,8 +2,8 @@
 #![tactic(auto)]
 
 mod did;
-mod digest;
 mod frames;
+mod hashing;
 mod lists;
 mod machine;
 mod ops;
@@ -15,5 +15,7 @@ mod want;
 mod width;
 
 pub use did::{Did, Outgoing};
+pub use hashing::digest;
 pub use machine::Machine;
+pub use perform::apply;
 pub use want::Want;

@@ -7,15 +7,14 @@ ghost use Rattle.vd_execution.specs.Step.{need_of_action, advanced};
 ghost use Rattle.vd_machine.specs.Kept.{action_after};
 ghost use Rattle.vd_machine.specs.Machines.{held, list_of, cursors_of, IsMet, words_for, SamePeers};
 
-use crate::digest::digest;
 use crate::lists::{Lists, Taken, pairs_with, triples_with};
-use crate::registers::{clear, write, write_from};
+use crate::registers::{clear, hashed, write, write_from};
 use vd_base::{HostId, Items, Op, combine};
 use vd_execution::{Action, Binary};
 use vd_tape::{PairItem, Triple};
 
 /// What an operation on two words gives.
-pub(crate) fn apply(operation: Binary, x: u32, y: u32) -> u32
+pub fn apply(operation: Binary, x: u32, y: u32) -> u32
     ensures { result ≡ applied operation x y }
 {
     match operation {
@@ -141,7 +140,7 @@ pub(crate) fn perform(registers: &mut Vec<u32>, taken: &mut Taken, lists: &Lists
         }
         Action::Print(_) => {}
         Action::Hash(d, n, v) => {
-            let words = digest(registers, n.0, v.0);
+            let words = hashed(registers, n.0, v.0);
             write_from(registers, d.0 as usize, &words)
         }
         Action::Same(_, _) => {}
