@@ -31,7 +31,7 @@ pub record IsAcceptedBy (count : Problem → ℤ → ℕ) (words : ReplayWords) 
 
 -- for which the budget is enough
 abbrev pub IsAccepted : ReplayWords → Contents → Type 0
-IsAccepted = IsAcceptedBy firm
+IsAccepted words contents = IsAcceptedBy firm words contents
 
 -- It is enough where it is no less than the count by the first bound alone.
 abbrev pub HardBudgetsAreEnough : Type 0

@@ -11,7 +11,7 @@ use Rattle.vd_backend_sharing.specs.declared.shares.PartRegisters.{PartRegisters
 use Rattle.vd_backend_sharing.specs.declared.shares.Sharing.TheVariants as way
 use Rattle.vd_backend_sharing.specs.PairCalls.{shares_of, places_at}
 use Rattle.vd_bits.specs.BitCalls.{computed}
-use Rattle.vd_convert.specs.Convert.{drawn, finished, to_add_made}
+use Rattle.vd_convert.specs.Convert.{masked_parts, to_xor_made, drawn, finished, to_add_made}
 
 -- one call and then another
 both_called : {X Y : Type 0} (one : Made X) (more : Made Y) (c : Builder)
@@ -19,6 +19,20 @@ both_called : {X Y : Type 0} (one : Made X) (more : Made Y) (c : Builder)
 both_called one more c =
     ap (λ (l : List Line). let p : _ × Builder = (more.given, record { lines = l; next = more.next }) in p)
     (append_assoc c.lines _ _ ∙ ap (λ (l : List Line). c.lines ++ l) (sym (emitted_append one.gadgets more.gadgets)))
+
+-- to exclusive or, of hosts and parts that were found
+pub to_xor_found : (a b : HostId) (x one other v : Places) (p q s : PartRegisters) (g : Pair) (c c1 c2 : Builder)
+    → g ≡ record { sharing = way.Xors; first = a; second = b } → s ≡ shares_of x → ((p, q), c1) ≡ called (masked_parts g.first g.second s c.next) c
+    → one ≡ places_at a b p → other ≡ places_at a b q → (v, c2) ≡ called (computed a b op.Add (one ∷ other ∷ []) c1.next) c1
+    → (v, c2) ≡ called (to_xor_made a b x c.next) c
+to_xor_found a b x one other v p q s g c c1 c2 g_is s_is e one_is other_is f =
+    f ∙ ap₂ (λ (y z : Places). called (computed a b op.Add (y ∷ z ∷ []) c1.next) c1) one_is other_is
+    ∙ ap (λ (s : (PartRegisters × PartRegisters) × Builder). called (computed a b op.Add (places_at a b s.0.0 ∷ places_at a b s.0.1 ∷ []) s.1.next) s.1)
+    (e ∙ ap₂ (λ (z : Pair) (y : PartRegisters). called (masked_parts z.first z.second y c.next) c) g_is s_is)
+    ∙ both_called (masked_parts a b (shares_of x) c.next)
+    (computed a b op.Add
+    (places_at a b (masked_parts a b (shares_of x) c.next).given.0 ∷ places_at a b (masked_parts a b (shares_of x) c.next).given.1 ∷ [])
+    (masked_parts a b (shares_of x) c.next).next) c
 
 to_add_code : (a b : HostId) (x : Places) (word rest v : Places) (p q r : PartRegisters) (c c1 c2 c3 : Builder) → ((p, q), c1) ≡ called (drawn a b (shares_of x) c.next) c
     → word ≡ places_at a b q → (rest, c2) ≡ called (computed a b op.Sub (x ∷ word ∷ []) c1.next) c1 → (r, c3) ≡ called (finished a b (shares_of rest) p c2.next) c2
