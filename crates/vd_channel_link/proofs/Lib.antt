@@ -1,3 +1,4 @@
+pub mod Front
 mod Carried
 mod Cut
 mod Beginning

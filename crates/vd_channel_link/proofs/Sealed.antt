@@ -1,20 +1,25 @@
 -- What goes out over links that are sealed.
-use Rattle.std.proofs.Common.{◌≡◌, ◌∙◌, ◌≤◌, ℕ, zero, suc, Bool, true, false, IsTrue, List, [], ◌∷◌, ◌++◌, length, take, Option, Some, Result, Ok, Err, IfSome, refl, sym, ap, subst, arith, append_assoc, if◌then◌else◌, nat_lt}
+use Rattle.std.proofs.Common.{◌≡◌, ◌∙◌, ◌≤◌, ℕ, zero, suc, Bool, true, false, IsTrue, List, [], ◌∷◌, ◌++◌, length, take, Option, Some, None, Result, Ok, Err, IfSome, IfOk, refl, sym, ap, subst, arith, append_assoc, if◌then◌else◌, nat_lt, option_map}
 use Rattle.std.specs.List.{AllByRecursion}
+use Rattle.std.specs.Prelude.{OnErr}
 use Rattle.std.specs.Str.{bytes_eq}
 use Rattle.std.proofs.Math.Seq.{take-length}
 use Rattle.std.proofs.lemmas.List.{append-nil, length-take, take-append-le}
 use Rattle.vd_base.specs.declared.faults.CallFault.{CallFault}
+use Rattle.vd_base.specs.declared.faults.Failed.{Failed}
 use Rattle.vd_outside.specs.Link.{LinkView}
 use Rattle.vd_outside.specs.Net.{Accepts, Connects, HangsUp, Listens, NetView, SameLinks, Waiting, GivesLink, link_at, without_link_at}
 use Rattle.vd_channel_crypto.specs.Hellos.{hello_bytes, nonce_of}
 use Rattle.vd_channel_crypto.specs.Keys.{direction}
 use Rattle.vd_channel_crypto.specs.Records.{Direction, sealed}
 use Rattle.vd_channel_crypto.specs.declared.hellos.Hello.{Hello}
+use Rattle.vd_channel_link.specs.Opened.{records}
+use Rattle.vd_channel_link.specs.Session.{BeginsNone, FailsToSend, IsCarried, NoneBegun, OneCut, SendsRecord}
 use Rattle.vd_channel_link.specs.declared.session.Session.{Session}
+use Rattle.vd_channel_link.proofs.Sent.{carried_on}
 use Rattle.vd_channel_link.specs.Meeting.{SaysNoMore}
-use Rattle.vd_channel_link.specs.Outgoing.{AreUnused, Greeted, IsLinkSealed, IsSealing, SealsAll, SealsLinks, SealsSession, Sealer, first_words, sealer_of}
-use Rattle.vd_channel_link.specs.Seals.{IsKeyFor, IsMet, Tries}
+use Rattle.vd_channel_link.specs.Outgoing.{AreUnused, Greeted, HasSealed, IsLinkSealed, IsSealing, SealsAll, SealsLinks, SealsSession, Sealer, first_words, sealer_of}
+use Rattle.vd_channel_link.specs.Seals.{IsKeyFor, IsMet, StillSeals, Tries, listening, next_asked}
 use Rattle.vd_channel_link.specs.declared.channel_net.seal.Seal.{Seal}
 
 both : {X : Type 0} (P : X → Type 0) (xs ys : List X) → AllByRecursion P xs → AllByRecursion P ys → AllByRecursion P (xs ++ ys)
@@ -155,6 +160,14 @@ met_seals seal tried peer session came now met unsent =
       };
     }
 
+-- what went out in a session is sealed
+pub sealing_out : (by : Sealer) (session : Session) (below : LinkView) → IsSealing by session below → IsLinkSealed by below
+sealing_out by session below so told = record {
+  greeted = so.greeted;
+  pieces = so.carried.pieces;
+  front = ap (λ (d : Direction). take (length below.sent) (first_words so.greeted ++ records d 1 so.carried.pieces)) (sym so.own) ∙ so.carried.front told;
+}
+
 front_of_more : (count : ℕ) (sent all more : List ℕ) → sent ≡ take count all → take (length sent) (all ++ more) ≡ sent
 front_of_more count sent all more is =
     let short : length sent ≤ length all = omega (arith, ap length is, length-take count all) in
@@ -213,4 +226,121 @@ greeted_with seal mine peer key id from to nonce is = record {
   key = key;
   is_key = subst (λ (p : ℕ). IsKeyFor seal.me.0 seal.secrets p key) (sym to) is;
   theirs = mine;
+}
+
+-- ---- the links of a run
+
+sealing_on : (by : Sealer) (session later : Session) (before now : LinkView) → IsSealing by session before → later.ours ≡ session.ours
+    → ((start : List ℕ) → IsCarried start session before → IsCarried start later now) → IsSealing by later now
+sealing_on by session later before now so keys on = record {
+  greeted = so.greeted;
+  own = ap direction keys ∙ so.own;
+  carried = on (first_words so.greeted) so.carried;
+}
+
+pub sent_on : (by : Sealer) (start : NetView) (bytes : List ℕ) (session later : Session) (before now : LinkView) (count : ℕ) → SendsRecord bytes session later before now count
+    → SealsSession by start session before → SealsSession by start later now
+sent_on by start bytes session later before now count sends so told free =
+    sealing_on by session later before now (so told free) sends.keys (λ first carried. carried_on.sent first bytes session later before now count carried sends)
+
+failed_keys : (bytes : List ℕ) (session later : Session) (before now : LinkView) → FailsToSend bytes session later before now → later.ours ≡ session.ours
+failed_keys bytes session later before now (NoneBegun none) = none.keys
+failed_keys bytes session later before now (OneCut cut) = cut.keys
+
+pub failed_on : (by : Sealer) (start : NetView) (bytes : List ℕ) (session later : Session) (before now : LinkView) → FailsToSend bytes session later before now
+    → SealsSession by start session before → SealsSession by start later now
+failed_on by start bytes session later before now fails so told free =
+    sealing_on by session later before now (so told free) (failed_keys bytes session later before now fails)
+    (λ first carried. carried_on.failed first bytes session later before now carried fails)
+
+pub received_on : (by : Sealer) (start : NetView) (session later : Session) (before now : LinkView) → BeginsNone session later before now
+    → SealsSession by start session before → SealsSession by start later now
+received_on by start session later before now none so told free =
+    sealing_on by session later before now (so told free) none.keys (λ first carried. carried_on.received first session later before now carried none)
+
+pub send_on : (by : Sealer) (start : NetView) (bytes : List ℕ) (session later : Session) (before now : LinkView) (result : Result ℕ Failed)
+    → IfOk result (SendsRecord bytes session later before now) → OnErr result (FailsToSend bytes session later before now)
+    → SealsSession by start session before → SealsSession by start later now
+send_on by start bytes session later before now (Ok count) out cut so = sent_on by start bytes session later before now count out so
+send_on by start bytes session later before now (Err failed) out cut so = failed_on by start bytes session later before now cut so
+
+-- ---- the net of a run
+
+-- it goes on, by a seal that differs in what was tried and asked alone
+pub goes_on : (by : Sealer) (start : NetView) (seal later : Option Seal) (before now : NetView) → HasSealed by start seal before
+    → ((held : Seal) → seal ≡ Some held → (next : Seal) × (later ≡ Some next) × (sealer_of next ≡ sealer_of held))
+    → ((held : Seal) → seal ≡ Some held → SealsLinks (sealer_of held) before now) → HasSealed by start later now
+goes_on by start seal later before now has kept seals =
+    let next = kept has.held has.is in
+    record {
+      held = next.0;
+      is = next.1;
+      by_it = next.2 ∙ has.by_it;
+      seals = seals_then by start before now has.seals (subst (λ (b : Sealer). SealsLinks b before now) has.by_it (seals has.held has.is));
+    }
+
+pub same_held : (seal later : Option Seal) → later ≡ seal → (held : Seal) → seal ≡ Some held → (next : Seal) × (later ≡ Some next) × (sealer_of next ≡ sealer_of held)
+same_held seal later same held is = (held, same ∙ is, refl)
+
+pub still_held : (seal later : Option Seal) → StillSeals seal later → (held : Seal) → seal ≡ Some held → (next : Seal) × (later ≡ Some next) × (sealer_of next ≡ sealer_of held)
+still_held None later still held is = absurd cc
+still_held (Some seal) later still held is =
+    let one : seal ≡ held = cc in
+    (still.0, still.1, same_sealer seal still.0 still.2 ∙ ap sealer_of one)
+
+pub asked_held : (seal later : Option Seal) → StillSeals (option_map next_asked seal) later → (held : Seal) → seal ≡ Some held → (next : Seal) × (later ≡ Some next) × (sealer_of next ≡ sealer_of held)
+asked_held None later still held is = absurd cc
+asked_held (Some seal) later still held is =
+    let one : seal ≡ held = cc in
+    (still.0, still.1, same_sealer (next_asked seal) still.0 still.2 ∙ ap sealer_of one)
+
+pub listening_held : (listener : ℕ) (seal later : Option Seal) → later ≡ option_map (listening listener) seal → (held : Seal) → seal ≡ Some held
+    → (next : Seal) × (later ≡ Some next) × (sealer_of next ≡ sealer_of held)
+listening_held listener seal later first held is = (listening listener held, first ∙ ap (option_map (listening listener)) is, refl)
+
+pub each_seal : (Holds : Seal → Type 0) (seal : Option Seal) → IfSome seal Holds → (held : Seal) → seal ≡ Some held → Holds held
+each_seal Holds seal all held is = subst (λ (o : Option Seal). IfSome o Holds) is all
+
+pub listen_on : (by : Sealer) (start : NetView) (seal later : Option Seal) (before now : NetView) (address : List ℕ) (result : Result ℕ CallFault) → HasSealed by start seal before
+    → IfOk result (λ (listener : ℕ). later ≡ option_map (listening listener) seal) → OnErr result (later ≡ seal) → Listens address before now result → HasSealed by start later now
+listen_on by start seal later before now address (Ok listener) has first none listens =
+    goes_on by start seal later before now has (listening_held listener seal later first) (λ held is. seals_listens (sealer_of held) address before now (Ok listener) listens)
+listen_on by start seal later before now address (Err fault) has first none listens =
+    goes_on by start seal later before now has (same_held seal later none) (λ held is. seals_listens (sealer_of held) address before now (Err fault) listens)
+
+limited : (by : Sealer) (before now : NetView) (seconds : Option ℕ) → now ≡ record before { limit = seconds } → SealsLinks by before now
+limited by before now seconds is = subst (λ (n : NetView). SealsLinks by before n) (sym is)
+    (none_back by before (record before { limit = seconds }) (λ told. told) (λ told unused. record { waiting = unused.waiting; otherwise = unused.otherwise }) (λ told. refl))
+
+pub wait_on : (by : Sealer) (start : NetView) (seal later : Option Seal) (before now : NetView) (seconds : Option ℕ) → HasSealed by start seal before → later ≡ seal
+    → now ≡ record before { limit = seconds } → HasSealed by start later now
+wait_on by start seal later before now seconds has same is =
+    goes_on by start seal later before now has (same_held seal later same) (λ held at. limited (sealer_of held) before now seconds is)
+
+pub accept_on : (by : Sealer) (start : NetView) (seal later : Option Seal) (before now : NetView) → HasSealed by start seal before → StillSeals seal later
+    → IfSome seal (λ (held : Seal). SealsLinks (sealer_of held) before now) → HasSealed by start later now
+accept_on by start seal later before now has kept over =
+    goes_on by start seal later before now has (still_held seal later kept) (each_seal (λ (held : Seal). SealsLinks (sealer_of held) before now) seal over)
+
+pub connect_on : (by : Sealer) (start : NetView) (seal later : Option Seal) (before now : NetView) → HasSealed by start seal before → StillSeals (option_map next_asked seal) later
+    → IfSome seal (λ (held : Seal). SealsLinks (sealer_of held) before now) → HasSealed by start later now
+connect_on by start seal later before now has kept over =
+    goes_on by start seal later before now has (asked_held seal later kept) (each_seal (λ (held : Seal). SealsLinks (sealer_of held) before now) seal over)
+
+-- a link that is given
+pub given_on : (by : Sealer) (start : NetView) (seal : Option Seal) (before : NetView) (session : Session) (below : LinkView) → HasSealed by start seal before
+    → IfSome seal (λ (held : Seal). SealsSession (sealer_of held) before session below) → SealsSession by start session below
+given_on by start seal before session below has gives told free =
+    let one = has.seals told free in
+    subst (λ (b : Sealer). IsSealing b session below) has.by_it (each_seal (λ (held : Seal). SealsSession (sealer_of held) before session below) seal gives has.held has.is one.told one.unused)
+
+-- a link that comes back
+pub hung_up : (by : Sealer) (start : NetView) (seal later : Option Seal) (before now : NetView) (session : Session) (below : LinkView) → HasSealed by start seal before → later ≡ seal
+    → SealsSession by start session below → HangsUp below before now → HasSealed by start later now
+hung_up by start seal later before now session below has same so hangs = record {
+  held = has.held;
+  is = same ∙ has.is;
+  by_it = has.by_it;
+  seals = λ told free. seals_then by start before now has.seals
+      (seals_hangs_up by below before now hangs (λ t u. sealing_out by session below (so told free))) told free;
 }

@@ -1,5 +1,5 @@
 -- What goes out over the links of a net below one that seals.
-use Rattle.std.specs.Prelude.{◌≡◌, ℕ, IsTrue, List, [], ◌++◌, length, take, IfSome, Some}
+use Rattle.std.specs.Prelude.{◌≡◌, ℕ, IsTrue, List, [], ◌++◌, length, take, IfSome, Option, None, Some, false}
 use Rattle.std.specs.List.{AllByRecursion}
 use Rattle.vd_base.specs.declared.ids.HostId.{HostId}
 use Rattle.vd_outside.specs.Link.{LinkView}
@@ -22,10 +22,23 @@ pub record Sealer : Type 0 where
   pub secrets : Secrets
   pub seed : List ℕ
 
+-- where there is no run: nobody seals, and no net tells
+abbrev pub nobody : Sealer
+nobody = record { me = record { 0 = 0 }; secrets = record { id = []; links = [] }; seed = [] }
+
+abbrev pub nothing : NetView
+nothing = record { told = false; given = 0; limit = None; listeners = []; waiting = []; otherwise = None; links = 0; back = []; asked = []; faults = 0 }
+
 abbrev pub sealer_of : Seal → Sealer
 sealer_of seal = record { me = seal.me; secrets = seal.secrets; seed = seal.seed }
 
--- A hello in this dealing to a peer, by the nonce of a connection of this run; the key of the link to that peer; and a hello that was heard.
+-- by what a net seals, where it does
+abbrev pub sealer_in : Option Seal → Sealer
+sealer_in None = nobody
+sealer_in (Some seal) = sealer_of seal
+
+-- A hello in this dealing to a peer, by the nonce of a connection of this run; the key of the link to that peer; and a hello that was
+-- heard.
 pub record Greeted (by : Sealer) : Type 0 where
   pub mine : Hello
   pub id : mine.id ≡ by.secrets.id
@@ -78,3 +91,10 @@ SealsLinks by before now = IsTrue before.told → AreUnused before → SealsAll 
 -- the same of a session, after whose greeting nothing was sent so far
 abbrev pub SealsSession : Sealer → (before : NetView) → Session → LinkView → Type 0
 SealsSession by before session below = IsTrue before.told → AreUnused before → IsSealing by session below
+
+-- a net seals by this, and has done so from that net on
+pub record HasSealed (by : Sealer) (start : NetView) (seal : Option Seal) (below : NetView) : Type 0 where
+  pub held : Seal
+  pub is : seal ≡ Some held
+  pub by_it : sealer_of held ≡ by
+  pub seals : SealsLinks by start below

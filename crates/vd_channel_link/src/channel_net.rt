@@ -3,10 +3,14 @@
 
 mod laws;
 mod ledger;
+mod run_link;
+mod run_net;
 mod seal;
 mod sealed_net;
 
 pub use laws::unsent_links_greet_alone;
 pub use ledger::Ledger;
+pub use run_link::{RunLink, SealedRun};
+pub use run_net::RunNet;
 pub use seal::Seal;
 pub use sealed_net::SealedNet;

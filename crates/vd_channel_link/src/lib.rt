@@ -13,7 +13,9 @@ mod session;
 mod taking;
 
 pub use channel_handshake::{ends_have_the_same_keys, honest_ends_meet, meet};
-pub use channel_net::{Ledger, Seal, SealedNet, unsent_links_greet_alone};
+pub use channel_net::{
+    Ledger, RunLink, RunNet, Seal, SealedNet, SealedRun, unsent_links_greet_alone,
+};
 pub use fault::SealFault;
 pub use filling::fill;
 pub use laws::{opened_is_covered, opened_is_front, opened_is_sent, sent_is_carried};
