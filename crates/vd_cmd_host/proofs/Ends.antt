@@ -6,13 +6,14 @@ use Rattle.vd_outside.specs.Net.{NetView}
 use Rattle.vd_outside.specs.Sink.{SinkView}
 use Rattle.vd_outside.specs.Marks.{MarksView}
 use Rattle.vd_channel_crypto.specs.declared.deal_keys.secrets.Secrets.{Secrets}
+use Rattle.vd_channel_link.specs.Outgoing.{SealsLinks}
 use Rattle.vd_channel_link.specs.Seals.{sealed_by}
 use Rattle.vd_channel_link.specs.declared.channel_net.seal.Seal.{Seal}
 use Rattle.vd_cmd.specs.declared.command.HostWords.{HostWords}
 use Rattle.vd_hostcode.specs.declared.host_text.program.HostProgram.{HostProgram}
 use Rattle.vd_cmd_plan.specs.declared.status.Status.{Status}
 use Rattle.vd_cmd_plan.specs.declared.status.Status.TheVariants as status
-use Rattle.vd_cmd_host.specs.Hosts.{EndsMarked, HostRuns, IsSealedFor, Marked, NetsView, NotMarked, PlainRuns, Plainly, RanMarked, RunsLoaded, WentWell, WentWrong, status_after}
+use Rattle.vd_cmd_host.specs.Hosts.{EndsMarked, HostRuns, IsSealedFor, Marked, NetsView, NotMarked, PlainRuns, Plainly, RanMarked, RunsLoaded, WentWell, WentWrong, sealer_for, status_after}
 use Rattle.vd_cmd_host.specs.Loading.{IsLoaded, LoadsHost}
 use Rattle.vd_cmd_host.specs.Marking.{Claims, Leaves}
 use Rattle.vd_cmd_host.specs.declared.loading.Loaded.{Loaded}
@@ -27,10 +28,11 @@ ran_plainly words loaded files files_now net net_now out out_now (Err refusal) l
 
 -- one with a deal of version 2 was run
 pub ran_marked : (words : HostWords) (loaded : Loaded) (secrets : Secrets) (marks between marks_now : MarksView) (nets nets_now : NetsView) (out out_now : SinkView) (result : Result (Unit {0}) Status) (claimed : Claimed)
-    → Claims words secrets.id loaded.program marks between (Ok claimed) → RunsLoaded words loaded nets.sealed nets_now.sealed out out_now result → Leaves words claimed.name nets_now.sent between marks_now
+    → Claims words secrets.id loaded.program marks between (Ok claimed) → RunsLoaded words loaded nets.sealed nets_now.sealed out out_now result
+    → ∥ SealsLinks (sealer_for loaded.program secrets claimed.seed) nets.plain nets_now.plain ∥₁ → Leaves words claimed.name nets_now.sent between marks_now
     → EndsMarked words loaded secrets marks marks_now nets nets_now out out_now (status_after result)
-ran_marked words loaded secrets marks between marks_now nets nets_now out out_now result claimed claims runs leaves =
-    RanMarked result (record { claimed = claimed; between = between; claims = claims; runs = runs; leaves = leaves })
+ran_marked words loaded secrets marks between marks_now nets nets_now out out_now result claimed claims runs seals leaves =
+    RanMarked result (record { claimed = claimed; between = between; claims = claims; runs = runs; seals = seals; leaves = leaves })
 
 -- a net was told to seal by what a deal of version 2 tells
 pub is_sealed : (loaded : Loaded) (seed : List ℕ) (secrets : Secrets) (seal : Option Seal) → loaded.dealt.secrets ≡ Some secrets

@@ -10,6 +10,7 @@ mod Named
 mod Refusals
 mod Running
 mod Runs
+mod Sealing
 mod Twice
 mod CmdHostLawsFiles
 mod Giving

@@ -6,12 +6,14 @@ use Rattle.vd_outside.specs.Sink.{SinkView}
 use Rattle.vd_outside.specs.Marks.{MarksView}
 use Rattle.vd_channel_crypto.specs.declared.deal_keys.secrets.Secrets.{Secrets}
 use Rattle.vd_channel_link.specs.Ledgers.{has_sent}
+use Rattle.vd_channel_link.specs.Outgoing.{Sealer, SealsLinks}
 use Rattle.vd_channel_link.specs.Seals.{sealed_by}
 use Rattle.vd_channel_link.specs.Views.{sealing}
 use Rattle.vd_channel_link.specs.declared.channel_net.ledger.Ledger.{Ledger}
 use Rattle.vd_channel_link.specs.declared.channel_net.seal.Seal.{Seal}
 use Rattle.vd_cmd.specs.declared.command.HostWords.{HostWords}
 use Rattle.vd_engine.specs.declared.engine.Ended.{Ended}
+use Rattle.vd_hostcode.specs.declared.host_text.program.HostProgram.{HostProgram}
 use Rattle.vd_host_session.specs.Plays.{Plays}
 use Rattle.vd_host_session.specs.declared.fault.HostFault.{HostFault}
 use Rattle.vd_host_session.specs.Starts.{CanPlay, Starts}
@@ -52,13 +54,19 @@ pub record NetsView : Type 0 where
   pub sealed : NetView
   pub sent : Bool
 
--- A host with a deal of version 2 takes its mark and is run over sealed links. Then the mark is taken back where nothing went out that the deal masks.
+-- by what a run of this program's host seals its links, with what its deal tells and the bytes that were drawn for the run
+abbrev pub sealer_for : HostProgram → Secrets → (seed : List ℕ) → Sealer
+sealer_for program secrets seed = record { me = program.me; secrets = secrets; seed = seed }
+
+-- A host with a deal of version 2 takes its mark and is run over sealed links: what goes out over those of the net below is sealed by
+-- what the deal tells and by the bytes that were drawn. Then the mark is taken back where nothing went out that the deal masks.
 pub record RunsMarked (words : HostWords) (loaded : Loaded) (secrets : Secrets) (marks marks_now : MarksView) (nets nets_now : NetsView) (out out_now : SinkView)
     (result : Result (Unit {0}) Status) : Type 0 where
   pub claimed : Claimed
   pub between : MarksView
   pub claims : Claims words secrets.id loaded.program marks between (Ok claimed)
   pub runs : RunsLoaded words loaded nets.sealed nets_now.sealed out out_now result
+  pub seals : ∥ SealsLinks (sealer_for loaded.program secrets claimed.seed) nets.plain nets_now.plain ∥₁
   pub leaves : Leaves words claimed.name nets_now.sent between marks_now
 
 -- The deal is of version 2, and a net seals by the number of its host, by what it tells of its dealing, and by the bytes that were drawn for this run.

@@ -3,6 +3,7 @@ pub mod Laws
 pub mod Loading
 pub mod Marking
 pub mod Once
+pub mod Sealing
 pub mod Statuses
 pub mod Instance
 pub mod Serving

@@ -2,6 +2,7 @@
 
 ghost use Rattle.vd_cmd_host.specs.Laws.{HostsAskInOrder, LinksComeBack, StatusesHaveCauses, WaitsAreLimited};
 ghost use Rattle.vd_cmd_host.specs.Once.{DealsAreUsedOnce, MarksStandByDeals, MarksTell, NamesAreApart, NoDealServesTwice, UsedDealsStayMarked};
+ghost use Rattle.vd_cmd_host.specs.Sealing.{LinksAreSealed};
 
 /// A net is asked for a prefix of the host's calls and for no other: for all with status 0, and for none where the files were
 /// not loaded.
@@ -29,6 +30,12 @@ pub fn waits_are_limited()
 /// there now: no second run passes.
 pub fn deals_are_used_once()
     ensures { DealsAreUsedOnce }
+{}
+
+/// With a deal of version 2 nothing goes out over a link but one hello and records with the keys that the deal, and both hellos, make for
+/// that link, by a nonce of the bytes that were drawn for this run.
+pub fn links_are_sealed()
+    ensures { LinksAreSealed }
 {}
 
 /// Every program of a host finds the mark of a deal: it stands in the folder of the deal's file, by the host's number and the name of the

@@ -12,6 +12,6 @@ mod statuses;
 pub use cmd_host_laws::{equal_words_are_enough, served_hosts_end_well};
 pub use host_command::host;
 pub use laws::{
-    deals_are_used_once, hosts_ask_in_order, links_come_back, marks_are_apart,
+    deals_are_used_once, hosts_ask_in_order, links_are_sealed, links_come_back, marks_are_apart,
     no_deal_serves_twice, statuses_have_causes, waits_are_limited,
 };

@@ -2,6 +2,7 @@
 
 ghost use Rattle.std.specs.Prelude.{◌≡◌, ◌≤◌, None, Ok, IfOk};
 ghost use Rattle.vd_outside.specs.Files.{FilesView};
+ghost use Rattle.vd_channel_link.specs.Outgoing.{HasSealed, sealer_in};
 ghost use Rattle.vd_channel_link.specs.Views.{sealing};
 ghost use Rattle.vd_cmd_host.specs.Hosts.{IsSealedFor, PlainRuns, RunsLoaded, status_after};
 ghost use Rattle.vd_cmd_host.specs.Loading.{IsLoaded, LoadsHost};
@@ -10,8 +11,9 @@ use crate::loading::Loaded;
 use crate::marking::Claimed;
 use crate::statuses::status_of;
 use std::alloc::{AllocError, Global};
+use std::marker::{Brand, PhantomData};
 use vd_base::{Items, Name, Names, Text};
-use vd_channel_link::SealedNet;
+use vd_channel_link::{RunNet, SealedNet, SealedRun};
 use vd_cmd::HostWords;
 use vd_cmd_plan::Status;
 use vd_host_session::{Ready, play, start};
@@ -95,6 +97,40 @@ pub(crate) fn run_plain<N: Net + Drop, O: Sink>(
     status_after(ran)
 }
 
+/// How a run over a net ended, and the net.
+#[derive(Drop)]
+struct Played<'a, N: Net + Drop> {
+    ran: Result<(), Status>,
+    net: &'a mut SealedNet<N>,
+}
+
+/// Runs a host over a net that seals by what this run seals by.
+fn run_over<'a, R: SealedRun, N: Net + Drop, O: Sink>(
+    alloc: Global,
+    net: &'a mut SealedNet<N>,
+    out: &mut O,
+    words: &HostWords,
+    loaded: Loaded,
+) -> Played<'a, N>
+    requires room { (N.view net.old.net).given ≤ 4294967000 }
+    requires loaded { IsLoaded words.now loaded }
+    requires held { net.ghost_name ≡ R.held }
+    requires sealed { ∥ HasSealed R.by R.start net.old.seal (N.view net.old.net) ∥₁ }
+    ensures held { result.net.ghost_name ≡ net.entry.ghost_name }
+    ensures runs { RunsLoaded words.now loaded
+        (sealing (N.view net.old.net) net.old.faults) (sealing (N.view result.net.now.net) result.net.now.faults)
+        (O.view out.old) (O.view out.new) result.ran }
+    ensures sealed { ∥ HasSealed R.by R.start result.net.now.seal (N.view result.net.now.net) ∥₁ }
+{
+    let mut run: RunNet<'a, R, N> = RunNet {
+        net,
+        run: PhantomData,
+    };
+    let ran = run_loaded(alloc, &mut run, out, words, loaded);
+    let RunNet { net, .. } = run;
+    Played { ran, net }
+}
+
 /// Runs a host whose deal is of version 2, over a net that seals by what the deal tells of its dealing and by the bytes that were drawn
 /// for this run.
 pub(crate) fn run_sealed<N: Net + Drop, O: Sink>(
@@ -108,8 +144,11 @@ pub(crate) fn run_sealed<N: Net + Drop, O: Sink>(
     requires room { (N.view net.old.net).given ≤ 4294967000 }
     requires loaded { IsLoaded words.now loaded }
     requires sealed { IsSealedFor loaded _claimed.now.seed net.old.seal }
-    ensures { RunsLoaded words.now loaded (sealing (N.view net.old.net) net.old.faults) (sealing (N.view net.new.net) net.new.faults)
+    ensures runs { RunsLoaded words.now loaded
+        (sealing (N.view net.old.net) net.old.faults) (sealing (N.view net.new.net) net.new.faults)
         (O.view out.old) (O.view out.new) result }
+    ensures sealed { ∥ HasSealed (sealer_in net.old.seal) (N.view net.old.net) net.new.seal (N.view net.new.net) ∥₁ }
 {
-    run_loaded(alloc, net, out, words, loaded)
+    let Played { ran, .. } = run_over::<Brand, N, O>(alloc, net, out, words, loaded);
+    ran
 }
