@@ -18,7 +18,7 @@ use Rattle.vd_cmd_choice.specs.Searching.{GaveUp, searched_by}
 use Rattle.vd_execution.specs.Joint.{Done}
 use Rattle.vd_cmd_compile_early.specs.Compiling.{early_plan}
 use Rattle.vd_cmd_host.specs.Hosts.{HostRuns, Marked, NetsView, NotLoaded, Plainly}
-use Rattle.vd_cmd_host.proofs.Front.{used_once}
+use Rattle.vd_cmd_host.proofs.Front.{are_sealed, used_once}
 use Rattle.vd_cmd_deal.specs.Sources.{FromFile, NoMemory, RunsKeyDeal, file_plan}
 use Rattle.vd_cmd_host.specs.Loading.{OfProgram, files_of}
 use Rattle.vd_cmd_run.specs.Running.{Refused}
@@ -34,7 +34,7 @@ use Rattle.vd_top.specs.Early.{EarlyForm}
 use Rattle.vd_top.specs.Headline.{KeepsTrial, KeepsDependence, KeepsHeadline, KeepsInfluence, KeepsNeeds, ShowsForm}
 use Rattle.vd_cmd_run.proofs.Front.{complete}
 use Rattle.vd_cmd_host.proofs.Front.{plain_served, served}
-use Rattle.vd_top.specs.Hosts.{KeysForm, MarksForm, PlaysForm, ReportsForm, ServesForm, SpawnsForm, marks_by, speaks_by, spawns_by}
+use Rattle.vd_top.specs.Hosts.{KeysForm, MarksForm, PlaysForm, ReportsForm, SealsForm, ServesForm, SpawnsForm, marks_by, speaks_by, spawns_by}
 
 -- what is shown by the form is what is said of the words
 pub headline_of : (words : List (List ℕ)) (before : FilesView) (out_before out_now : SinkView) (status : Status) → ShowsForm (form_of words) before out_before out_now status → KeepsHeadline words before out_before out_now status
@@ -263,6 +263,15 @@ marked_all files files_now marks marks_now nets nets_now out out_now status (Som
 marked_all files files_now marks marks_now nets nets_now out out_now status (Some (Early words)) plays = tt
 marked_all files files_now marks marks_now nets nets_now out out_now status (Some (Run words)) plays = tt
 marked_all files files_now marks marks_now nets nets_now out out_now status (Some (Host words)) plays = used_once words files files_now marks marks_now nets nets_now out out_now status plays
+
+pub seals : (files files_now : FilesView) (marks marks_now : MarksView) (nets nets_now : NetsView) (out out_now : SinkView) (status : Status) (form : Option Command)
+    → PlaysForm form files files_now marks marks_now nets nets_now out out_now status → SealsForm form files files_now marks nets nets_now
+seals files files_now marks marks_now nets nets_now out out_now status None plays = tt
+seals files files_now marks marks_now nets nets_now out out_now status (Some (OnFiles command)) plays = tt
+seals files files_now marks marks_now nets nets_now out out_now status (Some (KeyDeal words)) plays = tt
+seals files files_now marks marks_now nets nets_now out out_now status (Some (Early words)) plays = tt
+seals files files_now marks marks_now nets nets_now out out_now status (Some (Run words)) plays = tt
+seals files files_now marks marks_now nets nets_now out out_now status (Some (Host words)) plays = are_sealed words files files_now marks marks_now nets nets_now out out_now status plays
 
 serves_host : (words : HostWords) (files files_now : FilesView) (marks marks_now : MarksView) (nets nets_now : NetsView) (out out_now : SinkView) (status : Status)
     → HostRuns words files files_now marks marks_now nets nets_now out out_now status → ServesForm (Some (Host words)) files files_now nets nets_now out out_now status

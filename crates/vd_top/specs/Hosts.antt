@@ -10,6 +10,7 @@ use Rattle.vd_cmd.specs.declared.command.Command.TheVariants.{Host, KeyDeal, Run
 use Rattle.vd_cmd_plan.specs.declared.status.Status.{Status}
 use Rattle.vd_cmd_host.specs.Hosts.{HostRuns, NetsView}
 use Rattle.vd_cmd_host.specs.Once.{UsesOnce}
+use Rattle.vd_cmd_host.specs.Sealing.{SealsByDeal}
 use Rattle.vd_cmd_deal.specs.Sources.{RunsKeyDeal}
 use Rattle.vd_cmd_run.specs.Completing.{IsCompleteRun}
 use Rattle.vd_cmd_run.specs.Running.{Runs}
@@ -62,6 +63,15 @@ MarksForm other files files_now marks marks_now nets nets_now = Unit {0}
 
 abbrev pub MarksWords : List (List ℕ) → FilesView → FilesView → MarksView → MarksView → NetsView → NetsView → Type 0
 MarksWords words files files_now marks marks_now nets nets_now = MarksForm (form_of words) files files_now marks marks_now nets nets_now
+
+-- With a deal of version 2 all that was sent over each link that came back was sealed by what the deal tells, and by bytes that were
+-- drawn for this run.
+abbrev pub SealsForm : Option Command → FilesView → FilesView → MarksView → NetsView → NetsView → Type 0
+SealsForm (Some (Host words)) files files_now marks nets nets_now = SealsByDeal words files files_now marks nets.plain nets_now.plain
+SealsForm other files files_now marks nets nets_now = Unit {0}
+
+abbrev pub SealsWords : List (List ℕ) → FilesView → FilesView → MarksView → NetsView → NetsView → Type 0
+SealsWords words files files_now marks nets nets_now = SealsForm (form_of words) files files_now marks nets nets_now
 
 -- A key of 32 bytes is drawn or read, and the deal that it makes is stored.
 abbrev pub KeysForm : Option Command → FilesView → FilesView → MarksView → MarksView → SinkView → SinkView → Status → Type 0

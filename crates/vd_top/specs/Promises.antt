@@ -15,7 +15,8 @@ use Rattle.vd_top.specs.Early.{EarlyByWords}
 use Rattle.vd_top.specs.Counts.{KeepsCount, counts_packets}
 use Rattle.vd_top.specs.Commands.{CompletesWords, RunsWords}
 use Rattle.vd_top.specs.Headline.{KeepsAccepted, KeepsDependence, KeepsExcuse, KeepsHeadline, KeepsInfluence, KeepsNeeds, KeepsTrial}
-use Rattle.vd_top.specs.Hosts.{KeysWords, MarksWords, PlaysWords, ReportsWords, ServesWords, SpawnsWords, may_mark, speaks, spawns}
+use Rattle.vd_top.specs.Hosts.{KeysWords, MarksWords, PlaysWords, ReportsWords, SealsWords, ServesWords, SpawnsWords}
+use Rattle.vd_top.specs.Hosts.{may_mark, speaks, spawns}
 
 -- the objects that a run uses, and how many packets it says that hosts sent in this process, each before it and after it
 pub record Around : Type 0 where
@@ -50,6 +51,7 @@ pub record Keeps (words : List (List ℕ)) (o : Around) (status : Status) : Type
   pub complete : CompletesWords words o.files.0 o.files.1 o.out.0 o.out.1 status
   pub host : PlaysWords words o.files.0 o.files.1 o.marks.0 o.marks.1 o.nets.0 o.nets.1 o.out.0 o.out.1 status
   pub used_once : MarksWords words o.files.0 o.files.1 o.marks.0 o.marks.1 o.nets.0 o.nets.1
+  pub sealed : SealsWords words o.files.0 o.files.1 o.marks.0 o.nets.0 o.nets.1
   pub keyed : KeysWords words o.files.0 o.files.1 o.marks.0 o.marks.1 o.out.0 o.out.1 status
   pub hosts : SpawnsWords words o.files.0 o.files.1 o.out.0 o.out.1 o.spawner.0 o.spawner.1 status
   pub served : ServesWords words o.files.0 o.files.1 o.nets.0 o.nets.1 o.out.0 o.out.1 status

@@ -26,6 +26,7 @@ returns-in-None g c = record {
     complete = c.run.ensures.complete;
     host = c.run.ensures.host;
     used_once = c.run.ensures.used_once;
+    sealed = c.run.ensures.sealed;
     keyed = c.run.ensures.keyed;
     hosts = c.run.ensures.hosts;
     served = c.run.ensures.served;
