@@ -97,38 +97,33 @@ pub(crate) fn run_plain<N: Net + Drop, O: Sink>(
     status_after(ran)
 }
 
-/// How a run over a net ended, and the net.
-#[derive(Drop)]
-struct Played<'a, N: Net + Drop> {
-    ran: Result<(), Status>,
-    net: &'a mut SealedNet<N>,
-}
-
-/// Runs a host over a net that seals by what this run seals by.
+/// Runs a host over a net that seals by what this run seals by, and notes how it ended. The net is given back: so it is known that what
+/// holds of it in the end holds of this one.
 fn run_over<'a, R: SealedRun, N: Net + Drop, O: Sink>(
     alloc: Global,
     net: &'a mut SealedNet<N>,
     out: &mut O,
     words: &HostWords,
     loaded: Loaded,
-) -> Played<'a, N>
+    ran: &mut Result<(), Status>,
+) -> &'a mut SealedNet<N>
     requires room { (N.view net.old.net).given ≤ 4294967000 }
     requires loaded { IsLoaded words.now loaded }
     requires held { net.ghost_name ≡ R.held }
     requires sealed { ∥ HasSealed R.by R.start net.old.seal (N.view net.old.net) ∥₁ }
-    ensures held { result.net.ghost_name ≡ net.entry.ghost_name }
+    ensures held { result.ghost_name ≡ net.entry.ghost_name }
     ensures runs { RunsLoaded words.now loaded
-        (sealing (N.view net.old.net) net.old.faults) (sealing (N.view result.net.now.net) result.net.now.faults)
-        (O.view out.old) (O.view out.new) result.ran }
-    ensures sealed { ∥ HasSealed R.by R.start result.net.now.seal (N.view result.net.now.net) ∥₁ }
+        (sealing (N.view net.old.net) net.old.faults) (sealing (N.view result.now.net) result.now.faults)
+        (O.view out.old) (O.view out.new) ran.new }
+    ensures sealed { ∥ HasSealed R.by R.start result.now.seal (N.view result.now.net) ∥₁ }
 {
     let mut run: RunNet<'a, R, N> = RunNet {
         net,
         run: PhantomData,
     };
-    let ran = run_loaded(alloc, &mut run, out, words, loaded);
+    *ran = run_loaded(alloc, &mut run, out, words, loaded);
     let RunNet { net, .. } = run;
-    Played { ran, net }
+    net
 }
 
 /// Runs a host whose deal is of version 2, over a net that seals by what the deal tells of its dealing and by the bytes that were drawn
@@ -149,6 +144,7 @@ pub(crate) fn run_sealed<N: Net + Drop, O: Sink>(
         (O.view out.old) (O.view out.new) result }
     ensures sealed { ∥ HasSealed (sealer_in net.old.seal) (N.view net.old.net) net.new.seal (N.view net.new.net) ∥₁ }
 {
-    let Played { ran, .. } = run_over::<Brand, N, O>(alloc, net, out, words, loaded);
+    let mut ran = Ok(());
+    let _net = run_over::<Brand, N, O>(alloc, net, out, words, loaded, &mut ran);
     ran
 }

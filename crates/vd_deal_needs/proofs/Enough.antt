@@ -32,7 +32,7 @@ use Rattle.vd_projection.specs.Programs.{CanRunAt, joint_of}
 use Rattle.vd_projection.proofs.Front.{codes_run_well, ended_past}
 use Rattle.vd_deal_needs.specs.Enough.{AreBelow, HandInEnough, HasSizes, IsWithinSizes, SizesAreEnough, SizesAreLeast, SuffersNoWant, needs_for, sizes_for}
 use Rattle.vd_deal_needs.proofs.Countable.{code_at, hosts, within}
-use Rattle.vd_deal_needs.proofs.Sizes.{any_there, as_long, counted, joint_code, own_below, own_within, shared_below, shared_within, taken}
+use Rattle.vd_deal_needs.proofs.Measured.{any_there, as_long, counted, joint_code, own_below, own_within, shared_below, shared_within, taken}
 use Rattle.vd_deal_needs.proofs.Strangers.{IsStranger, none_of_strangers}
 
 -- the list of a peer

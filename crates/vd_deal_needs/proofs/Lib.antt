@@ -5,7 +5,7 @@ mod DealNeedsLawsTaken
 mod ReadOff
 mod Countable
 mod Strangers
-mod Sizes
+mod Measured
 mod Enough
 mod Made
 mod Acts

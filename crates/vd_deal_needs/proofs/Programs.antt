@@ -16,7 +16,7 @@ use Rattle.vd_projection.specs.Programs.{CanRunAt}
 use Rattle.vd_projection.proofs.Front.{proto_over, runnable_over}
 use Rattle.vd_projection.specs.Statements.{all_of}
 use Rattle.vd_projection.proofs.Front.{statements_make_few}
-use Rattle.vd_deal_needs.proofs.Sizes.{count_needs, counted, own_below, shared_below, taken}
+use Rattle.vd_deal_needs.proofs.Measured.{count_needs, counted, own_below, shared_below, taken}
 use Rattle.vd_deal_needs.specs.Items.{ItemsAreFew, SmallProgramsCanBeDealt, most_executed, most_items}
 use Rattle.vd_deal_needs.proofs.DealNeedsLimitsBlocks.{block_takes, weight_of}
 

@@ -44,7 +44,7 @@ fn confirm_bare(
     requires empty { path.depth ≡ 0 }
     requires by_uses { IsFalse certificate.now.by_arcs }
     requires small { IsSmallCertificate certificate.now }
-    ensures { Confirms path.problem.now certificate.now result }
+    ensures { Confirms path.entry.problem.now certificate.now result }
 {
     let mut path = path;
     let uses = path.problem.uses.as_slice().len() as u32;

@@ -22,15 +22,15 @@ returns-in_err-expect_consistent-in-Some-clause-executes c =
     rw (p.1, p.2)
     (not_consistent c.args.choice c.args.asked c.in-Some.assignment c.in_err-expect_consistent-in-Some.field-0.0 c.in-Some.is (c.in_err-expect_consistent-in-Some.ensures {u = tt}).checks)
 
-pub returns-in-Some-clause-executes : goal.returns-in-Some-clause-executes
-returns-in-Some-clause-executes c =
+pub returns-in_ok-expect_consistent-in-Some-clause-executes : goal.returns-in_ok-expect_consistent-in-Some-clause-executes
+returns-in_ok-expect_consistent-in-Some-clause-executes c =
     reported c.args.choice c.args.asked c.in-Some.assignment c.replay_counted.result c.in-Some.is (c.in_ok-expect_consistent-in-Some.ensures {u = tt}).checks c.replay_counted.ensures.computes
 
-pub returns-in-Some-clause-tells : goal.returns-in-Some-clause-tells
-returns-in-Some-clause-tells c = told_then c.args.choice.program c.args.asked c.replay_counted.result c.replay_counted.ensures.tells
+pub returns-in_ok-expect_consistent-in-Some-clause-tells : goal.returns-in_ok-expect_consistent-in-Some-clause-tells
+returns-in_ok-expect_consistent-in-Some-clause-tells c = told_then c.args.choice.program c.args.asked c.replay_counted.result c.replay_counted.ensures.tells
 
-pub returns-in-Some-clause-counts : goal.returns-in-Some-clause-counts
-returns-in-Some-clause-counts c =
+pub returns-in_ok-expect_consistent-in-Some-clause-counts : goal.returns-in_ok-expect_consistent-in-Some-clause-counts
+returns-in_ok-expect_consistent-in-Some-clause-counts c =
     choice_counted c.args.choice.program c.in-Some.assignment c.args.asked c.replay_counted.new.packets c.replay_counted.result
     (which_is (IsSelected c.args.choice.program) c.args.choice.assignment c.in-Some.assignment c.in-Some.is c.requires.found.selected) c.replay_counted.ensures.counts
 
