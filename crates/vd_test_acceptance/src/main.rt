@@ -27,46 +27,16 @@ mod example;
 mod outside;
 mod report;
 
-ghost use Rattle.std.specs.Prelude.{◌≡◌, ◌≤◌, []};
+ghost use Rattle.std.specs.Prelude.{◌≡◌, []};
 
 use crate::example::{Example, Objects};
 use crate::report::print_run;
 use std::alloc::Global;
 use std::io::{self, BufRead, BufReader, Write};
 use vd_base::{Items, Texts};
-use vd_channel_link::SealedNet;
 use vd_fakes::Mark;
-use vd_outside::{Files, Marks, Net, Sink, Spawner, Stored};
-use vd_top::start;
-
-/// The number of the status with which the words are run.
-fn code_of<F: Files, M: Marks, O: Sink, E: Sink, N: Net + Drop, S: Spawner>(
-    alloc: Global,
-    words: &Texts,
-    files: &mut F,
-    marks: &mut M,
-    out: &mut O,
-    err: &mut E,
-    net: &mut SealedNet<N>,
-    spawner: &mut S,
-) -> u8
-    requires listeners { (N.view net.old.net).given ≤ 4294967000 }
-    requires children { (S.view spawner.old).given ≤ 4294967000 }
-{
-    let mut packets = None;
-    start(
-        alloc,
-        words,
-        files,
-        marks,
-        out,
-        err,
-        net,
-        spawner,
-        &mut packets,
-    )
-    .code()
-}
+use vd_outside::Stored;
+use vd_top::{Outside, start};
 
 /// Runs an example over these objects, prints what it leaves, and gives the files and marks of it.
 fn run_over<W: Write>(
@@ -80,23 +50,32 @@ fn run_over<W: Write>(
 {
     let Objects {
         words,
-        mut files,
-        mut marks,
-        mut out,
-        mut err,
-        mut net,
-        mut spawner,
+        files,
+        marks,
+        out,
+        err,
+        net,
+        spawner,
     } = objects;
-    let code = code_of(
-        alloc,
-        &words,
-        &mut files,
-        &mut marks,
-        &mut out,
-        &mut err,
-        &mut net,
-        &mut spawner,
-    );
+    let mut outside = Outside {
+        files,
+        marks,
+        out,
+        err,
+        net,
+        spawner,
+        packets: None,
+    };
+    let code = start(alloc, &words, &mut outside).code();
+    let Outside {
+        files,
+        marks,
+        out,
+        err,
+        net,
+        spawner,
+        packets: _packets,
+    } = outside;
     let left = Objects {
         words,
         files,

@@ -73,10 +73,7 @@ module _ (before now : FilesView) (out_before out_now : SinkView) (status : Stat
   stores_nothing not (Some (Host words)) = tt
   stores_nothing not (Some (Run words)) = tt
 
-  -- what is said of a command is said of the words of which it is the form
-  pub stores_by : (form : Option Command) (command : Command) → form ≡ Some command → StoresForm (Some command) before now out_before out_now status → StoresForm form before now out_before out_now status
-  stores_by form command is said = subst (λ (f : Option Command). StoresForm f before now out_before out_now status) (sym is) said
-
+  -- what is said of the form of the words is said of them
   pub stored_of : (words : List (List ℕ)) → StoresForm (form_of words) before now out_before out_now status → KeepsStored words before now out_before out_now status
   stored_of words said = λ source prefix budget form. subst (λ (f : Option Command). StoresForm f before now out_before out_now status) form said
 

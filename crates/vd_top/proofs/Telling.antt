@@ -34,6 +34,8 @@ use Rattle.vd_top.specs.Early.{EarlyForm}
 use Rattle.vd_top.specs.Headline.{KeepsTrial, KeepsDependence, KeepsHeadline, KeepsInfluence, KeepsNeeds, ShowsForm}
 use Rattle.vd_cmd_run.proofs.Front.{complete}
 use Rattle.vd_cmd_host.proofs.Front.{plain_served, served}
+use Rattle.vd_top.specs.Promises.{Around, Does}
+use Rattle.vd_top.proofs.Compiling.{stores_nothing}
 use Rattle.vd_top.specs.Hosts.{KeysForm, MarksForm, PlaysForm, ReportsForm, SealsForm, ServesForm, SpawnsForm, marks_by, speaks_by, spawns_by}
 
 -- what is shown by the form is what is said of the words
@@ -212,45 +214,11 @@ run_spawns command words is e = let wrong : true ≡ false = sym (ap (λ (k : Co
 -- ---- what is said of a command is said of the words of which it is the form
 
 module _ (form : Option Command) (command : Command) (is : form ≡ Some command) where
-  pub runs_by : (files files_now : FilesView) (out out_now : SinkView) (status : Status) → RunsForm (Some command) files files_now out out_now status → RunsForm form files files_now out out_now status
-  runs_by files files_now out out_now status said = subst (λ (f : Option Command). RunsForm f files files_now out out_now status) (sym is) said
-
-  pub shows_by : (files : FilesView) (out out_now : SinkView) (status : Status) → ShowsForm (Some command) files out out_now status → ShowsForm form files out out_now status
-  shows_by files out out_now status said = subst (λ (f : Option Command). ShowsForm f files out out_now status) (sym is) said
-
-  pub counts_by : (files : FilesView) (packets : Option ℕ) (status : Status) → CountedForm (Some command) files packets status → CountedForm form files packets status
-  counts_by files packets status said = subst (λ (f : Option Command). CountedForm f files packets status) (sym is) said
-
-  pub plays_by : (files files_now : FilesView) (marks marks_now : MarksView) (nets nets_now : NetsView) (out out_now : SinkView) (status : Status)
-      → PlaysForm (Some command) files files_now marks marks_now nets nets_now out out_now status → PlaysForm form files files_now marks marks_now nets nets_now out out_now status
-  plays_by files files_now marks marks_now nets nets_now out out_now status said = subst (λ (f : Option Command). PlaysForm f files files_now marks marks_now nets nets_now out out_now status) (sym is) said
-
-  pub marked_by : (files files_now : FilesView) (marks marks_now : MarksView) (nets nets_now : NetsView)
-      → MarksForm (Some command) files files_now marks marks_now nets nets_now → MarksForm form files files_now marks marks_now nets nets_now
-  marked_by files files_now marks marks_now nets nets_now said = subst (λ (f : Option Command). MarksForm f files files_now marks marks_now nets nets_now) (sym is) said
-
-  pub early_by : (files files_now : FilesView) (out out_now : SinkView) (status : Status) → EarlyForm (Some command) files files_now out out_now status → EarlyForm form files files_now out out_now status
-  early_by files files_now out out_now status said = subst (λ (f : Option Command). EarlyForm f files files_now out out_now status) (sym is) said
-
-  pub keys_by : (files files_now : FilesView) (marks marks_now : MarksView) (out out_now : SinkView) (status : Status)
-      → KeysForm (Some command) files files_now marks marks_now out out_now status → KeysForm form files files_now marks marks_now out out_now status
-  keys_by files files_now marks marks_now out out_now status said = subst (λ (f : Option Command). KeysForm f files files_now marks marks_now out out_now status) (sym is) said
-
-  pub unmarked_by : marks_by form ≡ false → marks_by (Some command) ≡ false
-  unmarked_by silent = subst (λ (f : Option Command). marks_by f ≡ false) is silent
-
-  pub uncounted_by : counts_packets_by form ≡ false → counts_packets_by (Some command) ≡ false
-  uncounted_by silent = subst (λ (f : Option Command). counts_packets_by f ≡ false) is silent
-
-  pub spawns_as : (files files_now : FilesView) (out out_now : SinkView) (spawner spawner_now : SpawnerView) (status : Status) → SpawnsForm (Some command) files files_now out out_now spawner spawner_now status
-      → SpawnsForm form files files_now out out_now spawner spawner_now status
-  spawns_as files files_now out out_now spawner spawner_now status said = subst (λ (f : Option Command). SpawnsForm f files files_now out out_now spawner spawner_now status) (sym is) said
+  pub does_by : (o : Around) (status : Status) → Does (Some command) o status → Does form o status
+  does_by o status said = subst (λ (f : Option Command). Does f o status) (sym is) said
 
   pub silent_by : speaks_by form ≡ false → speaks_by (Some command) ≡ false
   silent_by silent = subst (λ (f : Option Command). speaks_by f ≡ false) is silent
-
-  pub childless_by : spawns_by form ≡ false → spawns_by (Some command) ≡ false
-  childless_by childless = subst (λ (f : Option Command). spawns_by f ≡ false) is childless
 
 -- ---- what was done ends well where it can
 
@@ -272,6 +240,53 @@ seals files files_now marks marks_now nets nets_now out out_now status (Some (Ke
 seals files files_now marks marks_now nets nets_now out out_now status (Some (Early words)) plays = tt
 seals files files_now marks marks_now nets nets_now out out_now status (Some (Run words)) plays = tt
 seals files files_now marks marks_now nets nets_now out out_now status (Some (Host words)) plays = are_sealed words files files_now marks marks_now nets nets_now out out_now status plays
+
+-- where nothing was done, nothing has changed
+module _ (files : FilesView) (marks : MarksView) (out err : SinkView) (nets : NetsView) (spawner : SpawnerView) (packets : Option ℕ) where
+  abbrev still : Around
+  still = record {
+    files = (files, files);
+    out = (out, out);
+    err = (err, err);
+    marks = (marks, marks);
+    nets = (nets, nets);
+    spawner = (spawner, spawner);
+    packets = (packets, packets);
+  }
+
+  pub does_nothing : (form : Option Command) → (form ≡ None → ⊥) → Does form still Memory
+  does_nothing form some = record {
+    runs = runs_nothing files out form some;
+    shows = shows_nothing files out form;
+    stores = stores_nothing files files out out Memory (λ e. cc e) form;
+    counts = counts_nothing files packets Memory (λ e. cc e) form;
+    early = early_nothing files out form;
+    host = plays_nothing files out marks nets form;
+    used_once = marked_all files files marks marks nets nets out out Memory form (plays_nothing files out marks nets form);
+    keyed = keys_nothing files out marks form;
+    hosts = spawns_nothing files out spawner form;
+    err_untouched = refl;
+    marks_untouched = λ e. refl;
+    spawner_untouched = λ e. refl;
+    packets_untouched = λ e. refl;
+  }
+
+  pub does_refused : (form : Option Command) → form ≡ None → Does form still Usage
+  does_refused form none = record {
+    runs = runs_refused files out form none;
+    shows = shows_refused files out form none;
+    stores = stores_nothing files files out out Usage (λ e. cc e) form;
+    counts = counts_nothing files packets Usage (λ e. cc e) form;
+    early = early_refused files out form none;
+    host = plays_refused files out marks nets form none;
+    used_once = marked_all files files marks marks nets nets out out Usage form (plays_refused files out marks nets form none);
+    keyed = keys_refused files out marks form none;
+    hosts = spawns_refused files out spawner form none;
+    err_untouched = refl;
+    marks_untouched = λ e. refl;
+    spawner_untouched = λ e. refl;
+    packets_untouched = λ e. refl;
+  }
 
 serves_host : (words : HostWords) (files files_now : FilesView) (marks marks_now : MarksView) (nets nets_now : NetsView) (out out_now : SinkView) (status : Status)
     → HostRuns words files files_now marks marks_now nets nets_now out out_now status → ServesForm (Some (Host words)) files files_now nets nets_now out out_now status

@@ -2,5 +2,7 @@
 #![tactic(auto)]
 
 mod entry;
+mod outside;
 
 pub use entry::{outcomes_exist, run, start};
+pub use outside::Outside;

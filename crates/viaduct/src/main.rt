@@ -8,7 +8,7 @@ mod program;
 ghost use Rattle.std.specs.Prelude.{⊤};
 
 use caller::{Caller, Known, tell_ending};
-use program::{Ran, destination_of, end, exit_code, reason_of, run_over};
+use program::{Ending, Ran, destination_of, end, exit_code, reason_of, run_over};
 use std::alloc::{AllocError, Global};
 use std::env::{Env, VarError};
 use std::io::{IsTerminal, Stderr, Stdout};
@@ -23,6 +23,7 @@ use vd_edge::{KeptFiles, RealFiles, RealNet, RealSink, SystemDirectory, SystemSo
 use vd_edge_marks::RealMarks;
 use vd_edge_processes::{PARENT, REASONS, RealSpawner};
 use vd_shell::{Reasons, copy_reason, copy_text, speaker_of};
+use vd_top::Outside;
 
 /// The arguments of the program, and none where one of them is no text.
 fn arguments(rt: &(impl Env + AllocGlobal)) -> io::Result<Option<Vec<String>>> {
@@ -146,16 +147,47 @@ fn runtimes_of(rt: HostRuntime) -> io::Result<Runtimes> {
     })
 }
 
-/// Runs a command line over the real objects, and gives the code of how it ended.
-fn run_over_system(
-    alloc: Global,
-    caller: &Caller,
+/// What a run finds outside of itself, before its files are read.
+type RealOutside = Outside<
+    RealFiles<SystemDirectory<HostRuntime>>,
+    RealMarks<SystemDirectory<HostRuntime>, HostRuntime>,
+    RealSink<Stdout>,
+    RealSink<Stderr>,
+    SealedNet<RealNet<SystemSockets<HostRuntime>>>,
+    RealSpawner<HostRuntime>,
+>;
+
+/// What is known before a run: who started it, and the process that it is.
+#[derive(Drop)]
+struct Beginning {
+    caller: Caller,
     runtimes: Runtimes,
     process: u32,
     waits: Waits,
-    out: &mut RealSink<Stdout>,
-    err: &mut RealSink<Stderr>,
-) -> ExitCode {
+}
+
+/// What is known before a run. An error is that there was no memory.
+fn begin(rt: HostRuntime) -> io::Result<Beginning> {
+    let caller = caller_of(&rt)?;
+    let process = process::id(rt.process());
+    let waits = Waits::new(rt.process(), parent(&rt));
+    Ok(Beginning {
+        caller,
+        runtimes: runtimes_of(rt)?,
+        process,
+        waits,
+    })
+}
+
+/// The real objects, over these streams.
+fn outside_of(
+    alloc: Global,
+    runtimes: Runtimes,
+    process: u32,
+    waits: Waits,
+    out: RealSink<Stdout>,
+    err: RealSink<Stderr>,
+) -> RealOutside {
     let Runtimes {
         net,
         marks,
@@ -164,21 +196,30 @@ fn run_over_system(
         files,
     } = runtimes;
     let sockets = SystemSockets::new(net, alloc, waits);
-    let mut net = SealedNet::new(alloc, RealNet::new(sockets, alloc));
-    let mut marks = RealMarks::new(SystemDirectory::new(marks, process), random, alloc);
-    let mut spawner = RealSpawner::new(spawner, alloc, process);
-    let files = RealFiles::new(SystemDirectory::new(files, process), alloc);
-    let Ran { ending, files } = run_over(
-        alloc,
-        caller.destination,
-        &caller.words,
-        files,
-        &mut marks,
+    Outside {
+        files: RealFiles::new(SystemDirectory::new(files, process), alloc),
+        marks: RealMarks::new(SystemDirectory::new(marks, process), random, alloc),
         out,
         err,
-        &mut net,
-        &mut spawner,
-    );
+        net: SealedNet::new(alloc, RealNet::new(sockets, alloc)),
+        spawner: RealSpawner::new(spawner, alloc, process),
+        packets: None,
+    }
+}
+
+/// Runs the command line over the real objects, and gives the code of how it ended.
+fn run(alloc: Global, caller: &Caller, outside: RealOutside) -> ExitCode {
+    let Ran { status, outside } = run_over(alloc, caller.destination, &caller.words, outside);
+    let Outside {
+        files,
+        marks,
+        out,
+        mut err,
+        net,
+        spawner,
+        packets,
+    } = outside;
+    let ending = Ending { status, packets };
     let mut objects = Objects {
         files,
         marks,
@@ -186,30 +227,27 @@ fn run_over_system(
         spawner,
         written: out.reason(alloc, "standard output"),
     };
-    let _ = tell_ending(alloc, caller, &ending, &mut objects, err);
+    let _ = tell_ending(alloc, caller, &ending, &mut objects, &mut err);
     exit_code(&ending.status)
-}
-
-/// Runs the command line, and gives the code of how it ended. An error is that there was no memory.
-fn run(
-    rt: HostRuntime,
-    out: &mut RealSink<Stdout>,
-    err: &mut RealSink<Stderr>,
-) -> io::Result<ExitCode> {
-    let alloc: Global = rt.alloc();
-    let caller = caller_of(&rt)?;
-    let process = process::id(rt.process());
-    let waits = Waits::new(rt.process(), parent(&rt));
-    let runtimes = runtimes_of(rt)?;
-    Ok(run_over_system(alloc, &caller, runtimes, process, waits, out, err))
 }
 
 fn main(rt: HostRuntime) -> ExitCode {
     let alloc = rt.alloc();
-    let mut out = RealSink::new(rt.stdout());
+    let out = RealSink::new(rt.stdout());
     let mut err = RealSink::new(rt.stderr());
-    match run(rt, &mut out, &mut err) {
-        Ok(code) => code,
+    match begin(rt) {
+        Ok(
+            Beginning {
+                caller,
+                runtimes,
+                process,
+                waits,
+            },
+        ) => run(
+            alloc,
+            &caller,
+            outside_of(alloc, runtimes, process, waits, out, err),
+        ),
         Err(_) => end(alloc, &mut err, &Status::Memory),
     }
 }

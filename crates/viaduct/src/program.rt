@@ -1,10 +1,11 @@
 //! What the program does, whatever objects it is given.
 
-ghost use Rattle.std.specs.Prelude.{◌≡◌, ◌≤◌, IfOk, None, drop, if◌then◌else◌, map, option_map, string_bytes};
+ghost use Rattle.std.specs.Prelude.{◌≡◌, ◌≤◌, IfOk, drop, if◌then◌else◌, map, option_map, string_bytes};
 ghost use Rattle.std.specs.Process.{exit_status};
 ghost use Rattle.vd_cmd_host.specs.Hosts.{nets_of};
 ghost use Rattle.vd_cmd_plan.specs.Lines.{Says, code_of, status_line};
 ghost use Rattle.vd_diag_terminal.specs.declared.telling.Destination.TheVariants.{File, Terminal};
+ghost use Rattle.vd_top.specs.Promises.{around};
 ghost use Rattle.viaduct.specs.Program.{IsRun, RunsOver};
 
 use std::alloc::{AllocError, Global};
@@ -16,7 +17,7 @@ use vd_diag_terminal::{Destination, say_more};
 use vd_edge::{Directory, KeptFiles, RealFiles};
 use vd_outside::{Files, Marks, Net, Sink, Spawner};
 use vd_shell::read_ahead;
-use vd_top::start;
+use vd_top::{Outside, start};
 
 /// Copies of texts.
 fn copies(alloc: Global, texts: &[String]) -> Result<Texts, AllocError>
@@ -66,45 +67,29 @@ pub(crate) struct Ending {
 
 /// Runs a command line over these objects, and says how that ended; where the error stream goes to a terminal, it then says
 /// more of a fault.
-fn run_program<F: Files, M: Marks, O: Sink, E: Sink, N: Net + Drop, S: Spawner>(
+fn start_over<F: Files, M: Marks, O: Sink, E: Sink, N: Net + Drop, S: Spawner>(
     alloc: Global,
     destination: Destination,
     words: &Texts,
-    files: &mut F,
-    marks: &mut M,
-    out: &mut O,
-    err: &mut E,
-    net: &mut SealedNet<N>,
-    spawner: &mut S,
-) -> Ending
-    requires listeners { (N.view net.old.net).given ≤ 4294967000 }
-    requires children { (S.view spawner.old).given ≤ 4294967000 }
-    ensures { IsRun destination words.now (record {
-      files = (F.view files.old, F.view files.new);
-      out = (O.view out.old, O.view out.new);
-      err = (E.view err.old, E.view err.new);
-      marks = (M.view marks.old, M.view marks.new);
-      nets = (nets_of (N.view net.old.net) net.old.ledger net.old.faults, nets_of (N.view net.new.net) net.new.ledger net.new.faults);
-      spawner = (S.view spawner.old, S.view spawner.new);
-      packets = (None, result.packets);
-    }) result.status }
+    outside: &mut Outside<F, M, O, E, SealedNet<N>, S>,
+) -> Status
+    requires listeners { (N.view outside.old.net.net).given ≤ 4294967000 }
+    requires children { (S.view outside.old.spawner).given ≤ 4294967000 }
+    ensures { IsRun destination words.now
+        (around outside.old outside.new F.view M.view O.view E.view (λ net. nets_of (N.view net.net) net.ledger net.faults) S.view) result }
 {
-    let mut packets = None;
-    let status = start(
-        alloc,
-        words,
-        files,
-        marks,
-        out,
-        err,
-        net,
-        spawner,
-        &mut packets,
-    );
+    let status = start(alloc, words, outside);
 
     // The line stands: where there is no memory to say more of it, no more is said.
-    let _ = say_more(alloc, destination, words, files, err, &status);
-    Ending { status, packets }
+    let _ = say_more(
+        alloc,
+        destination,
+        words,
+        &mut outside.files,
+        &mut outside.err,
+        &status,
+    );
+    status
 }
 
 /// Says how a run ended that began nothing, and gives the code of that.
@@ -116,11 +101,10 @@ pub(crate) fn end<E: Sink>(alloc: Global, err: &mut E, status: &Status) -> ExitC
     exit_code(status)
 }
 
-/// A run over files that were read ahead: how it ended, and the files, unless there was no memory for them.
-#[derive(Drop)]
-pub(crate) struct Ran<D: Directory + Drop> {
-    pub ending: Ending,
-    pub files: Option<KeptFiles<D>>,
+/// A run over files that were read ahead: how it ended, and what it left, with the files unless there was no memory for them.
+pub(crate) struct Ran<D: Directory + Drop, M, O, E, N: Net + Drop, S> {
+    pub status: Status,
+    pub outside: Outside<Option<KeptFiles<D>>, M, O, E, SealedNet<N>, S>,
 }
 
 /// Why the last call of these files failed, where one did.
@@ -137,51 +121,79 @@ pub(crate) fn run_over<D: Directory + Drop, M: Marks, O: Sink, E: Sink, N: Net +
     alloc: Global,
     destination: Destination,
     words: &Texts,
-    files: RealFiles<D>,
-    marks: &mut M,
-    out: &mut O,
-    err: &mut E,
-    net: &mut SealedNet<N>,
-    spawner: &mut S,
-) -> Ran<D>
-    requires listeners { (N.view net.old.net).given ≤ 4294967000 }
-    requires children { (S.view spawner.old).given ≤ 4294967000 }
-    ensures { RunsOver destination words.now (D.fails_at files.directory) D.tells (D.holds files.directory)
-        (option_map (λ kept. D.holds kept.files.directory) result.files) (record {
-          out = (O.view out.old, O.view out.new);
-          err = (E.view err.old, E.view err.new);
-          marks = (M.view marks.old, M.view marks.new);
-          nets = (nets_of (N.view net.old.net) net.old.ledger net.old.faults, nets_of (N.view net.new.net) net.new.ledger net.new.faults);
-          spawner = (S.view spawner.old, S.view spawner.new);
-          packets = result.ending.packets;
-        }) result.ending.status }
+    outside: Outside<RealFiles<D>, M, O, E, SealedNet<N>, S>,
+) -> Ran<D, M, O, E, N, S>
+    requires listeners { (N.view outside.net.net).given ≤ 4294967000 }
+    requires children { (S.view outside.spawner).given ≤ 4294967000 }
+    ensures { RunsOver destination words.now (D.fails_at outside.files.directory) D.tells (D.holds outside.files.directory)
+        (option_map (λ kept. D.holds kept.files.directory) result.outside.files) (record {
+          out = (O.view outside.out, O.view result.outside.out);
+          err = (E.view outside.err, E.view result.outside.err);
+          marks = (M.view outside.marks, M.view result.outside.marks);
+          nets = (
+            nets_of (N.view outside.net.net) outside.net.ledger outside.net.faults,
+            nets_of (N.view result.outside.net.net) result.outside.net.ledger result.outside.net.faults,
+          );
+          spawner = (S.view outside.spawner, S.view result.outside.spawner);
+          packets = result.outside.packets;
+        }) result.status }
 {
+    let Outside {
+        files,
+        marks,
+        out,
+        mut err,
+        net,
+        spawner,
+        packets: _packets,
+    } = outside;
     match read_ahead(alloc, words, files) {
-        Ok(mut files) => {
-            let ending = run_program(
-                alloc,
-                destination,
-                words,
-                &mut files,
+        Ok(files) => {
+            let mut outside = Outside {
+                files,
                 marks,
                 out,
                 err,
                 net,
                 spawner,
-            );
+                packets: None,
+            };
+            let status = start_over(alloc, destination, words, &mut outside);
+            let Outside {
+                files,
+                marks,
+                out,
+                err,
+                net,
+                spawner,
+                packets,
+            } = outside;
             Ran {
-                ending,
-                files: Some(files),
+                status,
+                outside: Outside {
+                    files: Some(files),
+                    marks,
+                    out,
+                    err,
+                    net,
+                    spawner,
+                    packets,
+                },
             }
         }
         Err(_) => {
-            tell(alloc, err, &Status::Memory);
+            tell(alloc, &mut err, &Status::Memory);
             Ran {
-                ending: Ending {
-                    status: Status::Memory,
+                status: Status::Memory,
+                outside: Outside {
+                    files: None,
+                    marks,
+                    out,
+                    err,
+                    net,
+                    spawner,
                     packets: None,
                 },
-                files: None,
             }
         }
     }
