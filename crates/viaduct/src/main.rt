@@ -147,13 +147,13 @@ fn runtimes_of(rt: HostRuntime) -> io::Result<Runtimes> {
     })
 }
 
-/// What a run finds outside of itself, before its files are read.
-type RealOutside = Outside<
-    RealFiles<SystemDirectory<HostRuntime>>,
+/// What a run over the real objects left.
+type RealRan = Ran<
+    SystemDirectory<HostRuntime>,
     RealMarks<SystemDirectory<HostRuntime>, HostRuntime>,
     RealSink<Stdout>,
     RealSink<Stderr>,
-    SealedNet<RealNet<SystemSockets<HostRuntime>>>,
+    RealNet<SystemSockets<HostRuntime>>,
     RealSpawner<HostRuntime>,
 >;
 
@@ -179,37 +179,9 @@ fn begin(rt: HostRuntime) -> io::Result<Beginning> {
     })
 }
 
-/// The real objects, over these streams.
-fn outside_of(
-    alloc: Global,
-    runtimes: Runtimes,
-    process: u32,
-    waits: Waits,
-    out: RealSink<Stdout>,
-    err: RealSink<Stderr>,
-) -> RealOutside {
-    let Runtimes {
-        net,
-        marks,
-        random,
-        spawner,
-        files,
-    } = runtimes;
-    let sockets = SystemSockets::new(net, alloc, waits);
-    Outside {
-        files: RealFiles::new(SystemDirectory::new(files, process), alloc),
-        marks: RealMarks::new(SystemDirectory::new(marks, process), random, alloc),
-        out,
-        err,
-        net: SealedNet::new(alloc, RealNet::new(sockets, alloc)),
-        spawner: RealSpawner::new(spawner, alloc, process),
-        packets: None,
-    }
-}
-
-/// Runs the command line over the real objects, and gives the code of how it ended.
-fn run(alloc: Global, caller: &Caller, outside: RealOutside) -> ExitCode {
-    let Ran { status, outside } = run_over(alloc, caller.destination, &caller.words, outside);
+/// Says how a run over the real objects ended, and gives its code.
+fn finish(alloc: Global, caller: &Caller, ran: RealRan) -> ExitCode {
+    let Ran { status, outside } = ran;
     let Outside {
         files,
         marks,
@@ -231,23 +203,46 @@ fn run(alloc: Global, caller: &Caller, outside: RealOutside) -> ExitCode {
     exit_code(&ending.status)
 }
 
+/// Makes the real objects over these streams, runs the command line over them, and gives the code of how it ended.
+fn run(
+    alloc: Global,
+    beginning: Beginning,
+    out: RealSink<Stdout>,
+    err: RealSink<Stderr>,
+) -> ExitCode {
+    let Beginning {
+        caller,
+        runtimes,
+        process,
+        waits,
+    } = beginning;
+    let Runtimes {
+        net,
+        marks,
+        random,
+        spawner,
+        files,
+    } = runtimes;
+    let sockets = SystemSockets::new(net, alloc, waits);
+    let outside = Outside {
+        files: RealFiles::new(SystemDirectory::new(files, process), alloc),
+        marks: RealMarks::new(SystemDirectory::new(marks, process), random, alloc),
+        out,
+        err,
+        net: SealedNet::new(alloc, RealNet::new(sockets, alloc)),
+        spawner: RealSpawner::new(spawner, alloc, process),
+        packets: None,
+    };
+    let ran = run_over(alloc, caller.destination, &caller.words, outside);
+    finish(alloc, &caller, ran)
+}
+
 fn main(rt: HostRuntime) -> ExitCode {
     let alloc = rt.alloc();
     let out = RealSink::new(rt.stdout());
     let mut err = RealSink::new(rt.stderr());
     match begin(rt) {
-        Ok(
-            Beginning {
-                caller,
-                runtimes,
-                process,
-                waits,
-            },
-        ) => run(
-            alloc,
-            &caller,
-            outside_of(alloc, runtimes, process, waits, out, err),
-        ),
+        Ok(beginning) => run(alloc, beginning, out, err),
         Err(_) => end(alloc, &mut err, &Status::Memory),
     }
 }
