@@ -2,6 +2,7 @@ pub mod Front
 mod Parts
 mod Numbers
 mod Whole
+mod Outcomes
 mod Steps
 mod Loops
 mod Exact

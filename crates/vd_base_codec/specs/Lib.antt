@@ -1,3 +1,4 @@
 pub mod Reading
 pub mod Exact
+pub mod Outcome
 pub mod Digits

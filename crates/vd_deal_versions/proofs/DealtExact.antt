@@ -1,11 +1,11 @@
 -- A file of either version is read exactly.
-use Rattle.std.proofs.Common.{◌≡◌, ℕ, zero, suc, ◌<◌, ◌≤◌, Bool, true, false, cond, eqb, List, [], ◌∷◌, ◌++◌, length, drop, Option, Some, None, Result, Ok, Err, refl, sym, ap, subst, ◌∙◌, arith}
-use Rattle.std.specs.Prelude.{codes, ◌↔◌, ◌==◌, slice_index, if◌then◌else◌}
+use Rattle.std.proofs.Common.{◌≡◌, ℕ, zero, suc, ◌<◌, ◌≤◌, Bool, true, false, cond, eqb, List, [], ◌∷◌, ◌++◌, drop, Option, Some, None, Ok, refl, sym, ◌∙◌, arith}
+use Rattle.std.specs.Prelude.{codes, slice_index}
 use Rattle.std.proofs.lemmas.Bool.{eqb-true, eqb-false}
 use Rattle.vd_base.specs.Limits.{most_hosts}
 use Rattle.vd_base_codec.specs.Reading.{first, ◌>>=◌, field}
-use Rattle.vd_base_codec.specs.Exact.{IsAnything, IsExact, IsExactWhole, StopsAt}
-use Rattle.vd_base_codec.proofs.Front.{exact_for, whole_exact, stops_single}
+use Rattle.vd_base_codec.specs.Exact.{IsAnything, IsExact}
+use Rattle.vd_base_codec.proofs.Front.{exact_for, whole_exact, exact_follows}
 use Rattle.vd_tape.specs.declared.deal_items.deal.Deal.{Deal}
 use Rattle.vd_channel_crypto.specs.declared.deal_keys.secrets.Secrets.{Secrets}
 use Rattle.vd_tape.specs.Text.{deal_text, list_text, shares_text, IsDealOf}
@@ -13,7 +13,7 @@ use Rattle.vd_tape.specs.Reading.{deal_at}
 use Rattle.vd_tape.proofs.Front.{Fit, fit, is_deal_of, deal_exact}
 use Rattle.vd_deal_versions.specs.declared.dealt.SecretDeal.{SecretDeal}
 use Rattle.vd_deal_versions.specs.declared.dealt.Dealt.{Dealt}
-use Rattle.vd_deal_versions.specs.Text.{front_text, linked_text, secret_text, secret_of, text_by, dealt_text, Fit_by, IsSecretDealOf, IsDealtOf, IsDealtFile, IsDealtText}
+use Rattle.vd_deal_versions.specs.Text.{front_text, linked_text, secret_text, secret_of, text_by, dealt_text, Fit_by, IsSecretDealOf, IsDealtOf}
 use Rattle.vd_deal_versions.specs.Reading.{is_second, secret_at, with_secrets, dealt_at, dealt_read}
 use Rattle.vd_deal_versions.specs.Outcome.{DealtFilesFollowGrammar}
 use Rattle.vd_deal_versions.proofs.SecretExact.{secret_exact}
@@ -122,27 +122,9 @@ dealt_exact hosts me bytes few below = either hosts me bytes few below (is_secon
 
 -- ---- the law
 
-follows : (hosts me : ℕ) (bytes : List ℕ) (r : Result Dealt ℕ) → IsExactWhole (IsDealtOf hosts me) dealt_text bytes r
-    → ((d : Dealt) → (r ≡ Ok d) ↔ IsDealtFile hosts me bytes d) × ((at : ℕ) → (r ≡ Err at) ↔ StopsAt (IsDealtText hosts me) bytes at)
-follows hosts me bytes (Ok x) exact = (
-  λ d. (
-    λ e. let same : x ≡ d = cc in subst (IsDealtFile hosts me bytes) same (exact.0, exact.1),
-    λ h. ap (λ y. Ok y) (sym (exact.2 d h.0 h.1)),
-  ),
-  λ at. (λ e. absurd cc, λ s. absurd (s.no_text (x, (exact.0, exact.1)))),
-)
-follows hosts me bytes (Err left) exact = (
-  λ d. (λ e. absurd cc, λ h. absurd (exact.no_text (d, h))),
-  λ at. (
-    λ e. let same : left ≡ at = cc in subst (StopsAt (IsDealtText hosts me) bytes) same exact,
-    λ s. ap (λ y. Err y) (stops_single (IsDealtText hosts me) bytes left at exact s),
-  ),
-)
-
 pub follow_grammar : (hosts me : ℕ) (bytes : List ℕ) → hosts ≤ most_hosts → me < hosts → DealtFilesFollowGrammar hosts me bytes
 follow_grammar hosts me bytes few below =
-    let both = follows hosts me bytes (dealt_read hosts me bytes) (whole_exact IsAnything (IsDealtOf hosts me) dealt_text bytes (dealt_at hosts me bytes) tt (dealt_exact hosts me bytes few below)) in
-    record { given = both.0; refused = both.1 }
+    exact_follows (IsDealtOf hosts me) dealt_text bytes (dealt_read hosts me bytes) (whole_exact IsAnything (IsDealtOf hosts me) dealt_text bytes (dealt_at hosts me bytes) tt (dealt_exact hosts me bytes few below))
 
 pub written_is_read : (hosts me : ℕ) (dealt : Dealt) → hosts ≤ most_hosts → me < hosts → IsDealtOf hosts me dealt → dealt_read hosts me (dealt_text dealt) ≡ Ok dealt
 written_is_read hosts me dealt few below h = ((follow_grammar hosts me (dealt_text dealt) few below).given dealt).1 (h, refl)

@@ -4,7 +4,8 @@ ghost use Rattle.std.specs.Prelude.{◌≡◌, ◌≤◌, ◌<◌, Ok, IfOk, IfE
 ghost use Rattle.vd_base.specs.Limits.{most_hosts};
 ghost use Rattle.vd_deal_versions.specs.Text.{IsDealtOf};
 ghost use Rattle.vd_deal_versions.specs.Reading.{dealt_read};
-ghost use Rattle.vd_deal_versions.specs.Outcome.{Accepts, Refuses, IsFaultOf};
+ghost use Rattle.vd_base_codec.specs.Outcome.{IsFaultOf};
+ghost use Rattle.vd_deal_versions.specs.Outcome.{Accepts, Refuses};
 
 use crate::dealt::Dealt;
 use crate::reading::read_file;

@@ -1,18 +1,18 @@
 -- The whole file is read exactly.
-use Rattle.std.proofs.Common.{◌≡◌, ℕ, ◌-◌, ◌<◌, ◌≤◌, List, [], ◌∷◌, ◌++◌, length, Result, Ok, Err, All, refl, sym, ap, subst, ◌∙◌, arith}
-use Rattle.std.specs.Prelude.{codes, ◌↔◌}
+use Rattle.std.proofs.Common.{◌≡◌, ℕ, ◌-◌, ◌<◌, ◌≤◌, List, [], ◌∷◌, ◌++◌, length, Ok, All, refl, sym, ap, ◌∙◌, arith}
+use Rattle.std.specs.Prelude.{codes}
 use Rattle.std.specs.List.{AllByRecursion}
 use Rattle.std.proofs.lemmas.List.{append-nil}
 use Rattle.std.proofs.lemmas.List.Elements.{All-from_recursion, recursion_from_All}
 use Rattle.vd_base.specs.Limits.{most_hosts, most_deal_items}
 use Rattle.vd_base_codec.specs.Reading.{◌>>=◌, literal_at, field}
-use Rattle.vd_base_codec.specs.Exact.{IsAnything, IsExact, IsExactWhole, StopsAt}
-use Rattle.vd_base_codec.proofs.Front.{done_exact, literal_exact, Picks, then_exact, AreEach, exact_as, exact_for, whole_exact, stops_single}
+use Rattle.vd_base_codec.specs.Exact.{IsAnything, IsExact, IsExactWhole}
+use Rattle.vd_base_codec.proofs.Front.{done_exact, literal_exact, Picks, then_exact, AreEach, exact_as, exact_for, whole_exact, exact_follows}
 use Rattle.vd_tape.specs.declared.deal_items.deal.Deal.{Deal}
 use Rattle.vd_base.specs.Words.{IsWord}
 use Rattle.vd_tape.specs.Validity.{AreTripleWords, ArePairWords, AreWithin}
 use Rattle.vd_tape.specs.declared.reading.Shares.{Shares}
-use Rattle.vd_tape.specs.Text.{list_text, shares_text, deal_text, IsDealOf, IsFileOf, IsDealText}
+use Rattle.vd_tape.specs.Text.{list_text, shares_text, deal_text, IsDealOf}
 use Rattle.vd_tape.specs.Outcome.{DealsFollowGrammar}
 use Rattle.vd_tape.specs.Reading.{word_at, list_at, shares_at, deal_at, deal_read}
 use Rattle.vd_tape.proofs.ItemsExact.{FitsList}
@@ -168,24 +168,5 @@ read_exact hosts me bytes few below =
     whole_exact IsAnything (IsDealOf hosts me) deal_text bytes (deal_at hosts me bytes) tt
     (exact_for IsAnything (Fit hosts me) (IsDealOf hosts me) deal_text bytes (deal_at hosts me bytes) (λ d. is_deal_of hosts me d few below) (fit hosts me) (deal_exact hosts me bytes))
 
-follows : (hosts me : ℕ) (bytes : List ℕ) (r : Result Deal ℕ) → IsExactWhole (IsDealOf hosts me) deal_text bytes r
-    → ((d : Deal) → (r ≡ Ok d) ↔ IsFileOf hosts me bytes d) × ((at : ℕ) → (r ≡ Err at) ↔ StopsAt (IsDealText hosts me) bytes at)
-follows hosts me bytes (Ok x) exact = (
-  λ d. (
-    λ e. let same : x ≡ d = cc in subst (IsFileOf hosts me bytes) same (exact.0, exact.1),
-    λ h. ap (λ y. Ok y) (sym (exact.2 d h.0 h.1)),
-  ),
-  λ at. (λ e. absurd cc, λ s. absurd (s.no_text (x, (exact.0, exact.1)))),
-)
-follows hosts me bytes (Err left) exact = (
-  λ d. (λ e. absurd cc, λ h. absurd (exact.no_text (d, h))),
-  λ at. (
-    λ e. let same : left ≡ at = cc in subst (StopsAt (IsDealText hosts me) bytes) same exact,
-    λ s. ap (λ y. Err y) (stops_single (IsDealText hosts me) bytes left at exact s),
-  ),
-)
-
 pub follow_grammar : (hosts me : ℕ) (bytes : List ℕ) → hosts ≤ most_hosts → me < hosts → DealsFollowGrammar hosts me bytes
-follow_grammar hosts me bytes few below =
-    let both = follows hosts me bytes (deal_read hosts me bytes) (read_exact hosts me bytes few below) in
-    record { given = both.0; refused = both.1 }
+follow_grammar hosts me bytes few below = exact_follows (IsDealOf hosts me) deal_text bytes (deal_read hosts me bytes) (read_exact hosts me bytes few below)

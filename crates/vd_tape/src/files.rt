@@ -4,7 +4,8 @@ ghost use Rattle.std.specs.Prelude.{◌≡◌, ◌≤◌, ◌<◌, Ok, IfOk, IfE
 ghost use Rattle.vd_base.specs.Limits.{most_hosts};
 ghost use Rattle.vd_tape.specs.Text.{IsDealOf};
 ghost use Rattle.vd_tape.specs.Reading.{deal_read};
-ghost use Rattle.vd_tape.specs.Outcome.{Accepts, Refuses, IsFaultOf};
+ghost use Rattle.vd_base_codec.specs.Outcome.{IsFaultOf};
+ghost use Rattle.vd_tape.specs.Outcome.{Accepts, Refuses};
 
 use crate::deal_items::Deal;
 use crate::reading::read_file;
