@@ -15,3 +15,4 @@ mod Packets
 mod Widths
 mod Weights
 mod Running
+mod Wanted

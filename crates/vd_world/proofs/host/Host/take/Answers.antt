@@ -7,8 +7,9 @@ use Rattle.vd_machine.specs.Machines.{IsMet, cursors_of}
 use Rattle.vd_machine.specs.Wants.{wanted}
 use Rattle.vd_world.specs.Hears.{IsTaken}
 use Rattle.vd_world.specs.Hosts.{HostKept, local_of, gone_on}
-use Rattle.vd_world.proofs.Noting.{noted_heard, wants_words, hears}
+use Rattle.vd_world.proofs.Noting.{noted_heard, hears}
 use Rattle.vd_world.proofs.host.Host.take.Goals as goal
+use Rattle.vd_machine.proofs.Front.{wants_words}
 
 pub index_mut-requires : goal.index_mut-requires
 index_mut-requires c =
