@@ -15,3 +15,5 @@ mod ShownNames
 mod Telling
 mod Existing
 mod Reading
+mod ShownPlain
+mod LinesRead

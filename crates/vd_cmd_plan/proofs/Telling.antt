@@ -1,19 +1,13 @@
 -- What the number of a status says of it.
 use Rattle.std.proofs.Common.{◌≡◌, ℕ, List, [], ◌∷◌, Option, Some, slice_get, codes, refl, sym, ◌∙◌, ap}
 use Rattle.vd_cmd_plan.specs.Lines.{code_of, host_code}
-use Rattle.vd_cmd_plan.specs.Words.{CodesTellWords, ZeroIsEnded, host_word, word_of}
+use Rattle.vd_cmd_plan.specs.Words.{CodesAreListed, CodesTellWords, ZeroIsEnded, host_word, listed_words, word_of}
 use Rattle.vd_cmd_plan.specs.declared.status.HostStatus.{HostStatus}
 use Rattle.vd_cmd_plan.specs.declared.status.HostStatus.TheVariants as host_status
 use Rattle.vd_cmd_plan.specs.declared.status.Status.{Status}
 use Rattle.vd_cmd_plan.specs.declared.status.Status.TheVariants.{Ended, Memory, Usage, ReadFault, WriteFault, TooLong, Syntax, Names, Flow, NoAssignment, Spent, InputText, DealText, ScheduleText, CertificateText, BadDeal, CertificateRefused, Host, ChildFault, NoHost, NotTwo, HasCommit, DealShort, ViewDiffers, DealUsed, ShortKey}
 
--- the word of each number
-abbrev words : List (List ℕ)
-words =
-    codes "ended" ∷ codes "memory" ∷ codes "usage" ∷ codes "read fault" ∷ codes "write fault" ∷ codes "too long" ∷ codes "syntax" ∷ codes "names" ∷ codes "flow" ∷ codes "no assignment" ∷ codes "budget spent" ∷ codes "input text" ∷ codes "deal text" ∷ codes "schedule text" ∷ codes "host program" ∷ codes "certificate text" ∷ codes "bad deal" ∷ codes "certificate refused"
-    ∷ codes "peer fault" ∷ codes "bad frame" ∷ codes "unequal" ∷ codes "wrong program" ∷ codes "wrong host" ∷ codes "short input" ∷ codes "short deal" ∷ codes "link ended" ∷ codes "child fault" ∷ codes "no host" ∷ codes "not two" ∷ codes "commitment" ∷ codes "" ∷ codes "deal short" ∷ codes "view differs" ∷ codes "deal used" ∷ codes "short key" ∷ []
-
-host_told : (status : HostStatus) → slice_get words (host_code status) ≡ Some (host_word status)
+host_told : (status : HostStatus) → slice_get listed_words (host_code status) ≡ Some (host_word status)
 host_told (host_status.ProgramText offset) = refl
 host_told (host_status.ProgramRange number) = refl
 host_told (host_status.PeerFault name) = refl
@@ -25,7 +19,7 @@ host_told (host_status.ShortInput cursor count) = refl
 host_told (host_status.ShortDeal kind cursor count) = refl
 host_told (host_status.EndOfLink name) = refl
 
-told : (status : Status) → slice_get words (code_of status) ≡ Some (word_of status)
+pub told : CodesAreListed
 told Ended = refl
 told Memory = refl
 told Usage = refl
@@ -100,4 +94,4 @@ given otherwise other = otherwise
 pub codes_tell_words : CodesTellWords
 unfolding given
 codes_tell_words first second same =
-    ap (λ (o : Option (List ℕ)). given [] o) (sym (told first) ∙ (ap (λ (n : ℕ). slice_get words n) same ∙ told second))
+    ap (λ (o : Option (List ℕ)). given [] o) (sym (told first) ∙ (ap (λ (n : ℕ). slice_get listed_words n) same ∙ told second))

@@ -10,3 +10,4 @@ pub mod Numbered
 pub mod Shown
 pub mod Words
 pub mod Programs
+pub mod LinesRead

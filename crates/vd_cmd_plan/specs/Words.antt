@@ -1,5 +1,5 @@
 -- A word for each kind of status, and what the number with which the process ends says of it.
-use Rattle.std.specs.Prelude.{◌≡◌, ℕ, List, codes}
+use Rattle.std.specs.Prelude.{◌≡◌, ℕ, List, [], ◌∷◌, Option, Some, codes, slice_get}
 use Rattle.vd_cmd_plan.specs.Lines.{code_of}
 use Rattle.vd_cmd_plan.specs.declared.status.HostStatus.{HostStatus}
 use Rattle.vd_cmd_plan.specs.declared.status.HostStatus.TheVariants as host_status
@@ -54,3 +54,17 @@ ZeroIsEnded = (status : Status) → code_of status ≡ 0 → status ≡ Ended
 -- Statuses of two words end with two numbers.
 abbrev pub CodesTellWords : Type 0
 CodesTellWords = (first second : Status) → code_of first ≡ code_of second → word_of first ≡ word_of second
+
+-- the word of each number from 0 on; none has the number 30
+abbrev pub listed_words : List (List ℕ)
+listed_words =
+    codes "ended" ∷ codes "memory" ∷ codes "usage" ∷ codes "read fault" ∷ codes "write fault" ∷ codes "too long" ∷ codes "syntax" ∷ codes "names"
+    ∷ codes "flow" ∷ codes "no assignment" ∷ codes "budget spent" ∷ codes "input text" ∷ codes "deal text" ∷ codes "schedule text"
+    ∷ codes "host program" ∷ codes "certificate text" ∷ codes "bad deal" ∷ codes "certificate refused" ∷ codes "peer fault" ∷ codes "bad frame"
+    ∷ codes "unequal" ∷ codes "wrong program" ∷ codes "wrong host" ∷ codes "short input" ∷ codes "short deal" ∷ codes "link ended"
+    ∷ codes "child fault" ∷ codes "no host" ∷ codes "not two" ∷ codes "commitment" ∷ codes "" ∷ codes "deal short" ∷ codes "view differs"
+    ∷ codes "deal used" ∷ codes "short key" ∷ []
+
+-- A status ends with the number of its word in this list.
+abbrev pub CodesAreListed : Type 0
+CodesAreListed = (status : Status) → slice_get listed_words (code_of status) ≡ Some (word_of status)

@@ -17,7 +17,7 @@ mod status;
 
 pub use answer::Answer;
 pub use cmd_programs::{program_in, program_outcomes_exist};
-pub use codes::codes_tell_statuses;
+pub use codes::{codes_tell_statuses, numbers_are_in_order};
 pub use deliver::store_all;
 pub use ending::{finish, print_text};
 pub use labelled::Labelled;
@@ -25,5 +25,5 @@ pub use lines::tell;
 pub use loading::load;
 pub use numbered::file_name;
 pub use refusals::{check_status, input_status, rule_status, schedule_status};
-pub use shown::shown_byte;
+pub use shown::{names_are_shown_plain, shown_byte};
 pub use status::{FlowFault, HostStatus, Status};

@@ -3,7 +3,7 @@
 ghost use Rattle.std.specs.Prelude.{◌≡◌, ◌++◌};
 ghost use Rattle.std.specs.List.{flat_map};
 ghost use Rattle.vd_outside.specs.Sink.{WritesAll};
-ghost use Rattle.vd_cmd_plan.specs.Shown.{shown, shown_byte};
+ghost use Rattle.vd_cmd_plan.specs.Shown.{NamesAreShownPlain, shown, shown_byte};
 
 use crate::deliver::write_parts;
 use vd_base::Failed;
@@ -19,6 +19,11 @@ pub fn shown_byte(byte: u8) -> u8
         byte
     }
 }
+
+/// A name has nothing that a terminal takes for a command where it is shown, and a name without such bytes is shown as it is.
+pub fn names_are_shown_plain()
+    ensures { NamesAreShownPlain }
+{}
 
 /// Writes a name as it is shown.
 fn write_shown<O: Sink>(out: &mut O, name: &[u8]) -> Result<(), Failed>
