@@ -2,3 +2,4 @@ mod Behind
 mod Keys
 mod Values
 mod Words
+mod HelpRead

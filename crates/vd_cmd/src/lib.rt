@@ -3,6 +3,7 @@
 
 mod command;
 mod forms;
+mod help_words;
 mod numbers;
 mod own;
 mod reading;
@@ -11,5 +12,6 @@ pub use command::{
     Command, CommandFault, EarlyWords, ExcuseWords, FilesCommand, HostWords, KeyDealWords,
     KeySource, NeedsWords, ReplayWords, RunWords,
 };
+pub use help_words::help_is_read;
 pub use own::own_text;
 pub use reading::read_words;

@@ -1,0 +1,40 @@
+-- The words that the help says, read.
+use Rattle.std.specs.Prelude.{◌≡◌, ℕ, true, false, List, [], ◌∷◌, Option, Some, None, codes}
+use Rattle.vd_base.specs.Limits.{most_search_budget}
+use Rattle.vd_cmd.specs.Commands.{form_of}
+use Rattle.vd_cmd.specs.declared.command.Command.{Command}
+use Rattle.vd_cmd.specs.declared.command.Command.TheVariants.{OnFiles, Early, Host}
+use Rattle.vd_cmd.specs.declared.command.FilesCommand.{FilesCommand}
+use Rattle.vd_cmd.specs.declared.command.FilesCommand.TheVariants.{Clear, Labels, Choose, Draw, Certify, Compile, Needs, Hasten, Replay, Excuse, Depends, Influences}
+
+-- the words are read as this command over files
+abbrev pub AreRead : List (List ℕ) → FilesCommand → Type 0
+AreRead words command = form_of words ≡ Some (OnFiles command)
+
+-- Behind the name of each command stand names in the order of the help, each of which is taken for what the help calls it. Without more words
+-- nothing more is asked for.
+pub record HelpIsRead : Type 0 where
+  pub clear : (source inputs : List ℕ) → AreRead (codes "clear" ∷ source ∷ inputs ∷ []) (Clear source inputs)
+  pub labels : (source : List ℕ) → AreRead (codes "labels" ∷ source ∷ []) (Labels source)
+  pub choose : (source : List ℕ) → AreRead (codes "choose" ∷ source ∷ []) (Choose source most_search_budget)
+  pub draw : (source : List ℕ) → AreRead (codes "draw" ∷ source ∷ []) (Draw source most_search_budget)
+  pub compile : (source prefix : List ℕ) → AreRead (codes "compile" ∷ source ∷ prefix ∷ []) (Compile source prefix most_search_budget)
+  pub early : (source prefix : List ℕ) → form_of (codes "compile" ∷ source ∷ prefix ∷ codes "early" ∷ [])
+      ≡ Some (Early (record { source = source; prefix = prefix; budget = most_search_budget }))
+  pub needs : (file : List ℕ) → AreRead (codes "needs" ∷ file ∷ []) (Needs (record { file = file; each = false; budget = most_search_budget }))
+  pub needs_each : (file : List ℕ)
+      → AreRead (codes "needs" ∷ file ∷ codes "each" ∷ []) (Needs (record { file = file; each = true; budget = most_search_budget }))
+  pub hasten : (program out : List ℕ) → AreRead (codes "hasten" ∷ program ∷ out ∷ []) (Hasten program out)
+  pub host : (program inputs deal : List ℕ) (addresses : List (List ℕ)) → form_of (codes "host" ∷ program ∷ inputs ∷ deal ∷ addresses)
+      ≡ Some (Host (record { program = program; inputs = inputs; deal = deal; addresses = addresses; limit = None }))
+  pub certify : (source cert : List ℕ) → AreRead (codes "certify" ∷ source ∷ cert ∷ []) (Certify source cert)
+  pub depends : (source host : List ℕ) → AreRead (codes "depends" ∷ source ∷ host ∷ []) (Depends source host)
+  pub influences : (source host : List ℕ) → AreRead (codes "influences" ∷ source ∷ host ∷ []) (Influences source host)
+  pub excuse : (source inputs second prefix host out : List ℕ)
+      → AreRead (codes "excuse" ∷ source ∷ inputs ∷ second ∷ prefix ∷ host ∷ out ∷ [])
+      (Excuse (record { source = source; inputs = inputs; second = second; prefix = prefix; host = host; out = out; budget = most_search_budget }))
+  pub replay : (source inputs prefix schedule : List ℕ) → AreRead (codes "replay" ∷ source ∷ inputs ∷ prefix ∷ schedule ∷ [])
+      (Replay (record { source = source; inputs = inputs; prefix = prefix; schedule = schedule; messages = false; budget = most_search_budget }))
+  pub messages : (source inputs prefix schedule : List ℕ)
+      → AreRead (codes "replay" ∷ source ∷ inputs ∷ prefix ∷ schedule ∷ codes "messages" ∷ [])
+      (Replay (record { source = source; inputs = inputs; prefix = prefix; schedule = schedule; messages = true; budget = most_search_budget }))
