@@ -7,3 +7,4 @@ mod Outcomes
 mod PlainExact
 mod SecretExact
 mod Versions
+mod Begins

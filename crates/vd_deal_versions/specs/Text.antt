@@ -57,6 +57,10 @@ text_by deal (Some secrets) = secret_text (secret_of deal secrets)
 abbrev pub dealt_text : Dealt → List ℕ
 dealt_text dealt = text_by dealt.deal dealt.secrets
 
+-- A file of a deal, of whichever version, begins so.
+abbrev pub DealtTextsBegin : Type 0
+DealtTextsBegin = (dealt : Dealt) → (rest : List ℕ) × (dealt_text dealt ≡ codes "viaduct-deal " ++ rest)
+
 abbrev pub Fit_by : (hosts me : ℕ) → Deal → Option Secrets → Type 0
 Fit_by hosts me deal None = IsDealOf hosts me deal
 Fit_by hosts me deal (Some secrets) = IsSecretDealOf hosts me (secret_of deal secrets)

@@ -3,7 +3,7 @@
 ghost use Rattle.std.specs.Prelude.{◌≡◌, ℕ, ◌≤◌, ◌<◌, List, Ok};
 ghost use Rattle.vd_base.specs.Limits.{most_hosts};
 ghost use Rattle.vd_deal_versions.specs.declared.dealt.Dealt.{Dealt};
-ghost use Rattle.vd_deal_versions.specs.Text.{dealt_text, IsDealtOf};
+ghost use Rattle.vd_deal_versions.specs.Text.{DealtTextsBegin, dealt_text, IsDealtOf};
 ghost use Rattle.vd_deal_versions.specs.Reading.{dealt_read};
 ghost use Rattle.vd_deal_versions.specs.Outcome.{DealtFilesFollowGrammar};
 
@@ -16,4 +16,9 @@ pub fn dealt_files_follow_the_grammar()
 pub fn written_secrets_are_read()
     ensures { (hosts me : ℕ) (dealt : Dealt) → hosts ≤ most_hosts → me < hosts → IsDealtOf hosts me dealt →
         dealt_read hosts me (dealt_text dealt) ≡ Ok dealt }
+{}
+
+/// By these first bytes a file is known to be a deal of either version.
+pub fn dealt_texts_begin()
+    ensures { DealtTextsBegin }
 {}

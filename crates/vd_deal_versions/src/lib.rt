@@ -10,6 +10,6 @@ mod writing;
 
 pub use dealt::{Dealt, SecretDeal};
 pub use files::read_dealt;
-pub use laws::{dealt_files_follow_the_grammar, written_secrets_are_read};
+pub use laws::{dealt_files_follow_the_grammar, dealt_texts_begin, written_secrets_are_read};
 pub use plain::read_plain_deal;
 pub use writing::write_secret;
