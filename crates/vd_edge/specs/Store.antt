@@ -1,5 +1,5 @@
 -- A store by a new file that takes the place of what stood at a name.
-use Rattle.std.specs.Prelude.{◌≡◌, ◌⊎◌, ℕ, Bool, true, false, List, ◌++◌, Option, None, Some, codes, nat_eq, if◌then◌else◌}
+use Rattle.std.specs.Prelude.{◌≡◌, ◌≢◌, ◌⊎◌, ℕ, Bool, true, false, List, ◌++◌, Option, None, Some, codes, nat_eq, if◌then◌else◌}
 use Rattle.std.specs.Str.{bytes_eq}
 use Rattle.std.specs.List.{starts_with}
 use Rattle.std.specs.Fmt.{decimal}
@@ -24,6 +24,21 @@ abbrev pub access_of : Standing → List ℕ → Option Access
 access_of standing.Nothing bytes = Some (if is_deal bytes then access.Private else access.Usual)
 access_of (standing.Plain mode) bytes = Some (if is_deal bytes then access.Private else access.Mode mode)
 access_of standing.Special bytes = None
+
+-- the bits of the mode with which a file is made; as the system makes files, none
+abbrev pub made_mode : Access → Option ℕ
+made_mode access.Usual = None
+made_mode access.Private = Some 0o600
+made_mode (access.Mode mode) = Some 0o600
+
+-- A file that is stored over a plain one can be read by those who could read that one, or by its owner alone. A deal of any version is for its
+-- owner alone. What is not made as the system makes files is its owner's alone until its bytes stand in it.
+pub record StoresOpenNothing : Type 0 where
+  pub kept : (mode : ℕ) (bytes : List ℕ) → (access_of (standing.Plain mode) bytes ≡ Some (access.Mode mode))
+      ⊎ (access_of (standing.Plain mode) bytes ≡ Some access.Private)
+  pub new_deal : (rest : List ℕ) → access_of standing.Nothing (codes "viaduct-deal " ++ rest) ≡ Some access.Private
+  pub deal_over : (mode : ℕ) (rest : List ℕ) → access_of (standing.Plain mode) (codes "viaduct-deal " ++ rest) ≡ Some access.Private
+  pub made : (new : Access) → new ≢ access.Usual → made_mode new ≡ Some 0o600
 
 -- the name of a new file: NAME.tmp-, the mark of the process, and a number
 abbrev pub beside : List ℕ → ℕ → ℕ → List ℕ

@@ -2,6 +2,7 @@ ghost use Rattle.std.specs.Prelude.{◌≡◌, ℕ, Bool, IsTrue, List, Option, 
 ghost use Rattle.vd_edge.specs.Store.{Moves, Same, SameElse, is_replaced};
 
 use crate::files::read_front;
+use crate::standing::made_mode;
 use crate::{Access, Standing};
 use std::alloc::Global;
 use std::fs::{self, OpenFile, OpenOptions, Permissions};
@@ -103,16 +104,13 @@ impl<R: Disk + Drop> SystemDirectory<R> {
 /// The bits of a mode that say who may do what.
 const ACCESS_BITS: u32 = 0o777;
 
-/// How a new file is made: one of a given mode is its owner's alone until its bytes stand in it.
+/// How a new file is made.
 fn new_options(access: Access) -> OpenOptions {
     let mut options = OpenOptions::new();
     options.write(true);
     options.create_new(true);
-    match access {
-        Access::Usual => {}
-        Access::Private | Access::Mode(_) => {
-            options.mode(0o600);
-        }
+    if let Some(mode) = made_mode(access) {
+        options.mode(mode);
     }
     options
 }

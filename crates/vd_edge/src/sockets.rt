@@ -1,4 +1,5 @@
-ghost use Rattle.std.specs.Prelude.{◌≡◌, ℕ, List, Option, IfOk, ⊤};
+ghost use Rattle.std.specs.Prelude.{◌≡◌, ◌*◌, ℕ, List, Option, IfOk, ⊤};
+ghost use Rattle.std.specs.Duration.{as_nanos};
 ghost use Rattle.vd_edge.specs.Greetings.{is_greeting};
 
 use crate::waits::silent;
@@ -115,12 +116,18 @@ fn left<R: Clock>(rt: &R, start: &Instant, most: Duration) -> io::Result<Option<
     }
 }
 
+/// So many seconds, as long as they last.
+fn seconds_of(count: u32) -> Duration
+    ensures { as_nanos result ≡ count * 1_000_000_000 }
+{
+    Duration::from_secs(u64::from(count))
+}
+
 /// Whether a wait that began then has lasted as long as it may.
 fn is_over<R: Clock>(rt: &R, waits: &Waits, start: &Instant) -> io::Result<bool> {
     match waits.seconds() {
         Some(seconds) => {
-            let most = Duration::from_secs(u64::from(seconds));
-            Ok(left(rt, start, most)?.is_none())
+            Ok(left(rt, start, seconds_of(seconds))?.is_none())
         }
         None => Ok(false),
     }

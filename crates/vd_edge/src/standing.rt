@@ -1,5 +1,5 @@
 ghost use Rattle.std.specs.Prelude.{◌≡◌};
-ghost use Rattle.vd_edge.specs.Store.{access_of};
+ghost use Rattle.vd_edge.specs.Store.{StoresOpenNothing, access_of, made_mode};
 
 /// How a file that is made may be read and written.
 #[derive(Clone, Copy, PartialEq, Eq)]
@@ -36,3 +36,19 @@ pub(crate) fn access_of(standing: Standing, bytes: &[u8]) -> Option<Access>
         Standing::Plain(mode) => Some(Access::Mode(mode)),
     }
 }
+
+/// The bits of the mode with which a file of this access is made, and `None` where the system says them: one of a given mode is
+/// its owner's alone until its bytes stand in it.
+pub(crate) fn made_mode(access: Access) -> Option<u32>
+    ensures { result ≡ made_mode access }
+{
+    match access {
+        Access::Usual => None,
+        Access::Private | Access::Mode(_) => Some(0o600),
+    }
+}
+
+/// Whoever could not read what stood at a name cannot read what is stored there, and nobody but its owner can read a deal.
+pub fn stores_open_nothing()
+    ensures { StoresOpenNothing }
+{}

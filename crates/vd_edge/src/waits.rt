@@ -1,4 +1,4 @@
-ghost use Rattle.std.specs.Prelude.{◌≡◌, ◌||◌, true, None, OnErr, is_some};
+ghost use Rattle.std.specs.Prelude.{◌≡◌, ◌≢◌, ◌||◌, true, None, OnErr, OnOk, is_some};
 ghost use Rattle.vd_edge.specs.Waits.{turns};
 
 use std::io::{self, ErrorKind};
@@ -64,12 +64,21 @@ impl Waits {
         ensures { OnErr result (is_some self.now.parent ≡ true) }
     {
         match self.parent {
-            Some(parent) if parent_id(self.process) != parent => {
-                Err(io::Error::new(ErrorKind::ConnectionAborted, "the run ended"))
-            }
-            _ => Ok(()),
+            Some(parent) => same_parent(parent_id(self.process), parent),
+            None => Ok(()),
         }
     }
+}
+
+/// An error where the parent of a process is not the one that started it, and only there.
+fn same_parent(now: u32, then: u32) -> io::Result<()>
+    ensures gone { OnErr result (now ≢ then) }
+    ensures here { OnOk result (now ≡ then) }
+{
+    if now != then {
+        return Err(io::Error::new(ErrorKind::ConnectionAborted, "the run ended"));
+    }
+    Ok(())
 }
 
 /// The error of a peer that did nothing for as long as a wait may last.
