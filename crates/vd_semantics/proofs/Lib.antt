@@ -2,3 +2,4 @@ pub mod Front
 mod Puts
 mod Lookup
 mod Sizes
+mod Ordered

@@ -4,3 +4,4 @@ pub mod Turns
 pub mod Functions
 pub mod SourceMeaning
 pub mod ProgramMeaning
+pub mod Comparisons

@@ -1,6 +1,7 @@
 //! What a source and a let-normal program mean in clear: the outputs to each host, from what the hosts hand in.
 #![tactic(auto)]
 
+mod comparisons;
 pub mod held;
 pub mod hosts;
 mod names;
@@ -9,6 +10,7 @@ mod source;
 mod stores;
 mod world;
 
+pub use comparisons::comparisons_order;
 pub use program::clear_core;
 pub use source::clear_source;
 pub use stores::{put_array, put_element, put_word, zeros};
