@@ -3,7 +3,7 @@ use Rattle.std.proofs.Common.{◌≡◌, ℕ, ◌<◌, ◌^◌, List, [], ◌∷
 use Rattle.std.specs.Fmt.{decimal}
 use Rattle.vd_base.specs.Words.{IsWord}
 use Rattle.vd_report.specs.LineWords.{line_words}
-use Rattle.vd_report.proofs.Front.{AreRead, both_read, number_text, one_read, word_read}
+use Rattle.vd_report.proofs.Front.{AreRead, both_read, number_text, word_read}
 use Rattle.vd_cmd_plan.specs.LinesRead.{NumbersInOrder}
 
 long : (n : ℕ) → IsWord n → n < 2 ^ 64

@@ -1,10 +1,9 @@
 -- What the number of a status says of it.
-use Rattle.std.proofs.Common.{◌≡◌, ℕ, List, [], ◌∷◌, Option, Some, slice_get, codes, refl, sym, ◌∙◌, ap}
-use Rattle.vd_cmd_plan.specs.Lines.{code_of, host_code}
-use Rattle.vd_cmd_plan.specs.Words.{CodesAreListed, CodesTellWords, ZeroIsEnded, host_word, listed_words, word_of}
+use Rattle.std.proofs.Common.{◌≡◌, ℕ, List, [], Option, Some, slice_get, refl, sym, ◌∙◌, ap}
+use Rattle.vd_cmd_plan.specs.Lines.{host_code}
+use Rattle.vd_cmd_plan.specs.Words.{CodesAreListed, CodesTellWords, ZeroIsEnded, host_word, listed_words}
 use Rattle.vd_cmd_plan.specs.declared.status.HostStatus.{HostStatus}
 use Rattle.vd_cmd_plan.specs.declared.status.HostStatus.TheVariants as host_status
-use Rattle.vd_cmd_plan.specs.declared.status.Status.{Status}
 use Rattle.vd_cmd_plan.specs.declared.status.Status.TheVariants.{Ended, Memory, Usage, ReadFault, WriteFault, TooLong, Syntax, Names, Flow, NoAssignment, Spent, InputText, DealText, ScheduleText, CertificateText, BadDeal, CertificateRefused, Host, ChildFault, NoHost, NotTwo, HasCommit, DealShort, ViewDiffers, DealUsed, ShortKey}
 
 host_told : (status : HostStatus) → slice_get listed_words (host_code status) ≡ Some (host_word status)

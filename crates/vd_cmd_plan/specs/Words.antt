@@ -1,5 +1,5 @@
 -- A word for each kind of status, and what the number with which the process ends says of it.
-use Rattle.std.specs.Prelude.{◌≡◌, ℕ, List, [], ◌∷◌, Option, Some, codes, slice_get}
+use Rattle.std.specs.Prelude.{◌≡◌, ℕ, List, [], ◌∷◌, Some, codes, slice_get}
 use Rattle.vd_cmd_plan.specs.Lines.{code_of}
 use Rattle.vd_cmd_plan.specs.declared.status.HostStatus.{HostStatus}
 use Rattle.vd_cmd_plan.specs.declared.status.HostStatus.TheVariants as host_status
