@@ -3,3 +3,4 @@ mod OneMore
 mod Digests
 mod CmdDealKeyedOneMore
 mod ReadBack
+mod WholeKeys

@@ -1,5 +1,5 @@
 -- The command `deal` for a key that is drawn, and for one that a file has.
-use Rattle.std.specs.Prelude.{◌≡◌, ℕ, true, List, length, codes, Result, Ok, Err, nat_lt, if◌then◌else◌}
+use Rattle.std.specs.Prelude.{◌≡◌, ◌≤◌, ℕ, true, List, length, codes, Result, Ok, Err, nat_lt, if◌then◌else◌}
 use Rattle.vd_base.specs.declared.faults.CallFault.{CallFault}
 use Rattle.vd_base.specs.declared.faults.CallFault.TheVariants as call_fault
 use Rattle.vd_outside.specs.Files.{Contents, FilesView}
@@ -17,6 +17,10 @@ use Rattle.vd_cmd_deal.specs.KeyDealing.{key_answer}
 -- a key has 32 bytes
 abbrev pub key_in : (name bytes : List ℕ) → Result (List ℕ) Status
 key_in name bytes = if nat_lt (length bytes) 32 then Err (ShortKey name (length bytes)) else Ok bytes
+
+-- A key that a file has is its bytes, all 32 of them. At most so many are read.
+abbrev pub KeysAreWhole : Type 0
+KeysAreWhole = (name bytes key : List ℕ) → length bytes ≤ 32 → key_in name bytes ≡ Ok key → (key ≡ bytes) × (length key ≡ 32)
 
 abbrev pub bytes_plan : Counts → (name prefix bytes : List ℕ) → Contents → Plan
 bytes_plan counts name prefix bytes = check_then (key_in name bytes) (λ key. answer_then (key_answer counts key prefix))
