@@ -1,2 +1,3 @@
 mod Speakers
 mod InTurn
+mod PacketsRead

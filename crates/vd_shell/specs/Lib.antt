@@ -1,3 +1,4 @@
 pub mod Ahead
 pub mod Reasons
 pub mod Telling
+pub mod PacketsRead

@@ -3,6 +3,7 @@
 ghost use Rattle.std.specs.Prelude.{◌≡◌, ◌++◌, OnErr, OnOk, IfOk, codes, option_map, string_bytes};
 ghost use Rattle.vd_cmd_plan.specs.Lines.{Says};
 ghost use Rattle.vd_cmd_plan.specs.Shown.{shown};
+ghost use Rattle.vd_shell.specs.PacketsRead.{PacketsAreRead};
 ghost use Rattle.vd_shell.specs.Reasons.{address_part, first_text, host_part, noun_of, packets_text, peer_part, peer_text, reason_line, seal_text, seal_words, sent_text, speaker};
 
 use std::alloc::{AllocError, Global};
@@ -204,3 +205,8 @@ pub(crate) fn text_of_seal(
         None => Ok(None),
     }
 }
+
+/// A person reads how many packets were sent and how many came.
+pub fn packets_are_read()
+    ensures { PacketsAreRead }
+{}
