@@ -4,3 +4,4 @@ mod Digests
 mod CmdDealKeyedOneMore
 mod ReadBack
 mod WholeKeys
+mod OfTheDraw

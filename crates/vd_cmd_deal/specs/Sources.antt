@@ -1,5 +1,5 @@
 -- The command `deal` for a key that is drawn, and for one that a file has.
-use Rattle.std.specs.Prelude.{◌≡◌, ◌≤◌, ℕ, true, List, length, codes, Result, Ok, Err, nat_lt, if◌then◌else◌}
+use Rattle.std.specs.Prelude.{◌≡◌, ◌≤◌, ℕ, true, IsTrue, List, ◌∷◌, length, codes, Result, Ok, Err, nat_lt, if◌then◌else◌}
 use Rattle.vd_base.specs.declared.faults.CallFault.{CallFault}
 use Rattle.vd_base.specs.declared.faults.CallFault.TheVariants as call_fault
 use Rattle.vd_outside.specs.Files.{Contents, FilesView}
@@ -8,10 +8,11 @@ use Rattle.vd_outside.specs.Marks.{Draws, MarksView}
 use Rattle.vd_tape.specs.declared.deal_items.deal.Counts.{Counts}
 use Rattle.vd_cmd.specs.declared.command.KeyDealWords.{KeyDealWords}
 use Rattle.vd_cmd.specs.declared.command.KeySource.TheVariants.{Drawn, InFile}
+use Rattle.vd_cmd_plan.specs.Deliver.{stored}
 use Rattle.vd_cmd_plan.specs.Plans.{Plan, answer_then, check_then, file_then}
 use Rattle.vd_cmd_plan.specs.Runs.{Runs}
 use Rattle.vd_cmd_plan.specs.declared.status.Status.{Status}
-use Rattle.vd_cmd_plan.specs.declared.status.Status.TheVariants.{Memory, ReadFault, ShortKey}
+use Rattle.vd_cmd_plan.specs.declared.status.Status.TheVariants.{Ended, Memory, ReadFault, ShortKey}
 use Rattle.vd_cmd_deal.specs.KeyDealing.{key_answer}
 
 -- a key has 32 bytes
@@ -43,3 +44,11 @@ pub data RunsKeyDeal (words : KeyDealWords) (files files_now : FilesView) (marks
   NotDrawn : (fault : CallFault) → words.key ≡ Drawn → Draws marks marks_now (Err fault) → files_now ≡ files → out_now ≡ out
       → RunsKeyDeal words files files_now marks marks_now out out_now (not_drawn (codes "draw") fault)
   NoMemory : words.key ≡ Drawn → marks_now ≡ marks → files_now ≡ files → out_now ≡ out → RunsKeyDeal words files files_now marks marks_now out out_now Memory
+
+-- Where a deal whose key is drawn ended well, its files are those of the bytes that the marks drew next, and of no others.
+abbrev pub DrawnDealsAreOfTheDraw : Type 0
+DrawnDealsAreOfTheDraw =
+    (words : KeyDealWords) (files files_now : FilesView) (marks marks_now : MarksView) (out out_now : SinkView) (drawn : List ℕ)
+    → RunsKeyDeal words files files_now marks marks_now out out_now Ended → words.key ≡ Drawn
+    → IsTrue files.told → IsTrue marks.told → marks.draws ≡ drawn ∷ marks_now.draws
+    → files_now.contents ≡ stored (key_answer words.counts drawn words.prefix).stores files.contents

@@ -4,5 +4,5 @@ mod key_command;
 mod laws;
 mod sources;
 
-pub use laws::{key_deals_are_read, keys_are_whole};
+pub use laws::{drawn_deals_are_of_the_draw, key_deals_are_read, keys_are_whole};
 pub use sources::deal_by_source;
