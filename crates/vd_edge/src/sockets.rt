@@ -126,7 +126,7 @@ fn seconds_of(count: u32) -> Duration
 /// Whether a wait that began then has lasted as long as it may.
 fn is_over<R: Clock>(rt: &R, waits: &Waits, start: &Instant) -> io::Result<bool> {
     match waits.seconds() {
-        Some(seconds) => { Ok(left(rt, start, seconds_of(seconds))?.is_none()) }
+        Some(seconds) => Ok(left(rt, start, seconds_of(seconds))?.is_none()),
         None => Ok(false),
     }
 }
