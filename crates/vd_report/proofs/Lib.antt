@@ -13,3 +13,4 @@ mod InputsFaults
 mod Members
 mod LineWords
 mod LinksRead
+mod StatesTold

@@ -11,3 +11,4 @@ pub mod ReportLines
 pub mod ChoiceLines
 pub mod LineWords
 pub mod LinksRead
+pub mod StatesTold

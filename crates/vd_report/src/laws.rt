@@ -1,9 +1,15 @@
-//! What is true of every printed line. The function here does nothing: its contract is a law.
+//! What is true of every printed line. The functions here do nothing: their contracts are laws.
 
 ghost use Rattle.vd_report.specs.LinksRead.{LinksAreRead};
+ghost use Rattle.vd_report.specs.StatesTold.{StatesAreTold};
 
 /// The line of a link, read as words, names the host that sends before its `>` and the one that receives behind it. Then stand
 /// the number of words that were sent, and these words.
 pub fn links_are_read()
     ensures { LinksAreRead }
+{}
+
+/// The report says `ended`, `ready`, `short input` or `short deal` of a host exactly where that is how it stands.
+pub fn states_are_told()
+    ensures { StatesAreTold }
 {}
