@@ -1,2 +1,3 @@
 mod Pictured
 mod RowSteps
+mod Drawn

@@ -4,3 +4,4 @@ pub mod RowMarks
 pub mod AllRows
 pub mod Legend
 pub mod Picture
+pub mod Drawn

@@ -5,8 +5,10 @@
 mod all_rows;
 mod arrows;
 mod heads;
+mod laws;
 mod legend;
 mod picture;
 mod row_marks;
 
+pub use laws::{lines_end_where_words_go, shapes_are_named};
 pub use picture::drawing;
