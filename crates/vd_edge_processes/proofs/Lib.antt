@@ -2,3 +2,4 @@ mod Cutting
 mod Known
 mod ByTurns
 mod Ended
+mod FirstCauses

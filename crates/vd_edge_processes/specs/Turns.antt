@@ -1,5 +1,5 @@
 -- Children that are read by turns.
-use Rattle.std.specs.Prelude.{◌≡◌, ℕ, Bool, false, nat_eq, nat_lt, List, [], ◌∷◌, Option, None, Some, slice_get, ⊤, if◌then◌else◌}
+use Rattle.std.specs.Prelude.{◌≡◌, ◌≢◌, ℕ, Bool, false, nat_eq, nat_lt, List, [], ◌∷◌, Option, None, Some, slice_get, ⊤, if◌then◌else◌}
 use Rattle.std.specs.Io.KnownBytes.{Keeps}
 use Rattle.vd_edge_processes.specs.Lines.{GivesLine}
 
@@ -31,3 +31,13 @@ abbrev pub likelier : Option (ℕ × ℕ) → (number : ℕ) → Option ℕ → 
 likelier found number None = found
 likelier None number (Some status) = Some (number, status)
 likelier (Some first) number (Some status) = if nat_lt (remoteness status) (remoteness first.1) then Some (number, status) else Some first
+
+-- Of two children that ended with these statuses the one with the first is named, whichever of the two is asked first.
+abbrev pub IsNamedBefore : (cause effect : ℕ) → Type 0
+IsNamedBefore cause effect = (a b : ℕ) → (likelier (Some (a, cause)) b (Some effect) ≡ Some (a, cause)) × (likelier (Some (b, effect)) a (Some cause) ≡ Some (a, cause))
+
+-- A child whose link was ended (25) is named only where all others that ended with a fault are of this kind; one that blames a peer (18)
+-- only where each other one has one of these two statuses.
+pub record CausesComeFirst : Type 0 where
+  pub ended_link : (cause : ℕ) → cause ≢ 25 → IsNamedBefore cause 25
+  pub blamed_peer : (cause : ℕ) → cause ≢ 25 → cause ≢ 18 → IsNamedBefore cause 18

@@ -3,6 +3,7 @@
 //! lines the bytes are that a child writes.
 #![tactic(auto)]
 
+mod laws;
 mod lines;
 mod next;
 mod player;
@@ -10,5 +11,6 @@ mod running;
 mod spawner;
 mod turns;
 
+pub use laws::causes_come_first;
 pub use running::{PARENT, REASONS};
 pub use spawner::RealSpawner;
