@@ -1,5 +1,5 @@
 -- Why a run did not end well.
-use Rattle.std.proofs.Common.{◌≡◌, inl, inr, ◌≤◌, ℕ, true, List, Result, Err, refl, sym, subst, arith}
+use Rattle.std.proofs.Common.{◌≡◌, ◌≢◌, inl, inr, ◌≤◌, ℕ, true, List, Result, Err, refl, sym, subst, arith}
 use Rattle.vd_host_children.proofs.Front.{run_causes}
 use Rattle.vd_host_children.specs.Causes.{IsCaused}
 use Rattle.vd_host_children.specs.declared.fault.ChildrenFault.{ChildrenFault}
@@ -16,7 +16,7 @@ use Rattle.vd_cmd_plan.specs.declared.status.Status.TheVariants as status
 use Rattle.vd_cmd_run.specs.Completing.{HasCause}
 use Rattle.vd_cmd_run.specs.Running.{NoMemory, Played, Plays, Refused, Unassigned}
 use Rattle.vd_cmd_run.specs.RunsHosts.{NoReport, NotRun, NotStored, NotWritten, Outside, Reported, RunsHosts}
-use Rattle.vd_cmd_run.specs.Statuses.{child_status, run_status}
+use Rattle.vd_cmd_run.specs.Statuses.{FaultsOfChildrenAreNamed, child_status, run_status}
 use Rattle.vd_cmd_run.specs.declared.fault.RunFault.{RunFault}
 
 -- a count that rose later rose since then
@@ -55,3 +55,12 @@ module _ (before now : Outside) (compiled : FilesView) where
   plays_cause words names plan came end e (Unassigned answer form is same) = tt
   plays_cause words names plan came end e (NoMemory answer same) = tt
   plays_cause words names plan came end e (Played answer result ended runs) = hosts_cause answer.stores names words.program _ result e.later runs
+
+named : (names : List (List ℕ)) (fault : ChildrenFault) → fault ≢ children.Memory → child_status names fault ≡ status.ChildFault names fault
+named names children.Memory other = absurd (other refl)
+named names (children.Failed host) other = refl
+named names (children.Line host) other = refl
+named names (children.Status host number) other = refl
+
+pub children_named : FaultsOfChildrenAreNamed
+children_named = named

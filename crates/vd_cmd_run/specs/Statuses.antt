@@ -1,5 +1,5 @@
 -- The status with which a run ends.
-use Rattle.std.specs.Prelude.{ℕ, List, Result, Ok, Err}
+use Rattle.std.specs.Prelude.{◌≡◌, ◌≢◌, ℕ, List, Result, Ok, Err}
 use Rattle.vd_host_children.specs.declared.fault.ChildrenFault.{ChildrenFault}
 use Rattle.vd_host_children.specs.declared.fault.ChildrenFault.TheVariants as children
 use Rattle.vd_cmd_plan.specs.declared.status.Status.{Status}
@@ -19,3 +19,8 @@ run_status names (Err run.Memory) = Memory
 run_status names (Err (run.Store status)) = status
 run_status names (Err (run.Children fault)) = child_status names fault
 run_status names (Err run.Write) = WriteFault
+
+-- A run ends as out of memory for no fault of a child: the status has the names of the hosts, and which child did what.
+abbrev pub FaultsOfChildrenAreNamed : Type 0
+FaultsOfChildrenAreNamed = (names : List (List ℕ)) (fault : ChildrenFault) → fault ≢ children.Memory
+    → run_status names (Err (run.Children fault)) ≡ ChildFault names fault

@@ -3,6 +3,7 @@
 ghost use Rattle.vd_cmd_run.specs.Asking.{EndedRunsReport, RunsAskInOrder};
 ghost use Rattle.vd_cmd_run.specs.Completing.{RunsAreComplete, StatusesHaveCauses};
 ghost use Rattle.vd_cmd_run.specs.HostLines.{EachHostHasItsLine};
+ghost use Rattle.vd_cmd_run.specs.Statuses.{FaultsOfChildrenAreNamed};
 
 /// A good source, children that are hosts, and no fault of the outside give status 0, or memory runs out.
 pub fn runs_are_complete()
@@ -30,4 +31,9 @@ pub fn ended_runs_report()
 /// ends of a pair have one address, the addresses of two pairs are two, and no two hosts have one file.
 pub fn each_host_has_its_line()
     ensures { EachHostHasItsLine }
+{}
+
+/// A run that ends by what a child did, or by a line that no host prints, says which child it was: it never ends as out of memory.
+pub fn faults_of_children_are_named()
+    ensures { FaultsOfChildrenAreNamed }
 {}

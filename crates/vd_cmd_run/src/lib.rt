@@ -13,7 +13,7 @@ mod running;
 mod statuses;
 
 pub use laws::{
-    each_host_has_its_line, ended_runs_report, runs_are_complete, runs_ask_in_order,
-    statuses_have_causes,
+    each_host_has_its_line, ended_runs_report, faults_of_children_are_named, runs_are_complete,
+    runs_ask_in_order, statuses_have_causes,
 };
 pub use run_command::run;
