@@ -1,5 +1,5 @@
 -- The limits of the product. Each is the greatest number that is allowed.
-use Rattle.std.specs.Prelude.{ℕ}
+use Rattle.std.specs.Prelude.{ℕ, ◌+◌, ◌*◌, ◌≤◌}
 
 -- bytes of a source
 abbrev pub most_source_bytes : ℕ
@@ -84,3 +84,10 @@ most_open_blocks = 512
 -- registers of one host
 abbrev pub most_registers : ℕ
 most_registers = 2097152
+
+-- Files that have no more than they may have by count fit by their bytes. A word takes 11 bytes: ten digits, and what stands before them.
+-- A schedule has room for four steps of each host for each executed statement, and for names of 15 letters.
+pub record LimitsFit : Type 0 where
+  pub inputs : most_hosts * (11 * most_input_words) + most_source_bytes ≤ most_inputs_bytes
+  pub steps : 4 * most_hosts * most_weights ≤ most_schedule_entries
+  pub schedules : 16 * most_schedule_entries ≤ most_schedule_bytes

@@ -1,7 +1,7 @@
 //! The limits of the product. Each is the greatest number that is allowed.
 
 ghost use Rattle.std.specs.Prelude.{◌≡◌};
-ghost use Rattle.vd_base.specs.Limits.{most_source_bytes, most_open_brackets, most_hosts, most_principals, most_statements, most_nesting, most_weights, most_cells, most_input_words, most_inputs_bytes, most_schedule_bytes, most_schedule_entries, most_certificate_bytes, most_certificate_shifts, most_search_budget, most_deal_bytes, most_deal_items, most_host_file_bytes, most_packet_words, most_open_blocks, most_registers};
+ghost use Rattle.vd_base.specs.Limits.{LimitsFit, most_source_bytes, most_open_brackets, most_hosts, most_principals, most_statements, most_nesting, most_weights, most_cells, most_input_words, most_inputs_bytes, most_schedule_bytes, most_schedule_entries, most_certificate_bytes, most_certificate_shifts, most_search_budget, most_deal_bytes, most_deal_items, most_host_file_bytes, most_packet_words, most_open_blocks, most_registers};
 
 /// Bytes of a source.
 pub const SOURCE_BYTES: u32 = 65_536;
@@ -89,4 +89,10 @@ pub fn limits_are_stated()
     ensures packet_words { PACKET_WORDS ≡ most_packet_words }
     ensures open_blocks { OPEN_BLOCKS ≡ most_open_blocks }
     ensures registers { REGISTERS ≡ most_registers }
+{}
+
+/// Files that keep within the limits of what they hold keep within those of their bytes too. A schedule has room for four steps of
+/// each host for each executed statement.
+pub fn limits_fit()
+    ensures { LimitsFit }
 {}
