@@ -5,3 +5,4 @@ pub mod Usage
 pub mod Lines
 pub mod Shown
 pub mod Excerpts
+pub mod Begins

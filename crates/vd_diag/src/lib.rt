@@ -5,6 +5,7 @@
 mod diag_place;
 mod fault;
 mod files;
+mod laws;
 mod parts;
 mod remark;
 mod tables;
@@ -17,6 +18,7 @@ pub use files::{
     certificate_sentence, deal_sentence, host_sentence, inputs_sentence, no_assignment_sentence,
     program_sentence, schedule_sentence, spent_sentence,
 };
+pub use laws::places_count_from_one;
 pub use parts::{three, word_at};
 pub use remark::Remark;
 pub use tables::in_table;
