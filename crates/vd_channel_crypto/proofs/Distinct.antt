@@ -4,7 +4,7 @@ use Rattle.std.proofs.lemmas.Bool.Decides.{nat_tests}
 use Rattle.std.proofs.lemmas.List.{append_cancel_left}
 use Rattle.std.proofs.lemmas.Nat.{from_be_bytes-to_be_bytes_4, from_be_bytes-to_be_bytes_8, xor_of_8}
 use Rattle.std.specs.Int.{byte_at, w32, w64, to_be_bytes, from_be_bytes}
-use Rattle.std.specs.Int.Bits.{xor_assoc, xor_self, xor_zero_r}
+use Rattle.std.specs.Int.Bits.{xor_assoc, xor_self, xor_zero_l, xor_zero_r}
 use Rattle.sha2.specs.Sha256.{sha256}
 use Rattle.vd_channel_crypto.specs.declared.hellos.Hello.{Hello}
 use Rattle.vd_channel_crypto.specs.Codes.{block_of, padded}
@@ -92,6 +92,21 @@ behind_pad pad j k m n same e =
     let blocks : block_of j ≡ block_of k = sym (unpadded pad (block_of j)) ∙ ap (map (λ b. bit_xor b pad)) parts.0 ∙ unpadded pad (block_of k) in
     ((front_same j k _ _ same blocks).0, parts.1)
 
+xor_front : (a pad : ℕ) → bit_xor a (bit_xor a pad) ≡ pad
+xor_front a pad = sym (xor_assoc a a pad) ∙ ap (λ z. bit_xor z pad) (xor_self a) ∙ xor_zero_l pad
+
+same_pad : (a p q : ℕ) → bit_xor a p ≡ bit_xor a q → p ≡ q
+same_pad a p q e = sym (xor_front a p) ∙ ap (bit_xor a) e ∙ xor_front a q
+
+-- no block is the same under both pads
+pads_apart : (key m n : List ℕ) → padded 0x36 key ++ m ≢ padded 0x5c key ++ n
+pads_apart [] m n e =
+    let head : ◌≡◌ {A = ℕ} 0x36 0x5c = cc in
+    omega (arith, head)
+pads_apart (b ∷ bs) m n e =
+    let head : bit_xor b 0x36 ≡ bit_xor b 0x5c = cc in
+    omega (arith, same_pad b 0x36 0x5c head)
+
 pub codes_cover_their_keys : CodesCoverTheirKeys
 codes_cover_their_keys = record {
   inner = λ key message. padded 0x36 key ++ message;
@@ -99,6 +114,7 @@ codes_cover_their_keys = record {
   hashed = λ key message. refl;
   tells = behind_pad 0x36;
   tells_again = behind_pad 0x5c;
+  apart = pads_apart;
   bytes = λ key message digest k m d. (padded_bytes 0x36 key message (omega arith) k m, padded_bytes 0x5c key digest (omega arith) k d);
 }
 

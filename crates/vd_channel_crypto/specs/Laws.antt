@@ -17,13 +17,15 @@ AreBytes bytes = AllByRecursion (λ b. b < 2 ^ 8) bytes
 
 -- ---- codes
 
--- A code under a key is the digest of a message with the digest of another in it. Each of the two tells the key and what is behind it.
+-- A code under a key is the digest of a message with the digest of another in it. Each of the two tells the key and what is behind it, and
+-- under one key the one never is the other.
 pub record CodesCoverTheirKeys : Type 0 where
   pub inner : (key message : List ℕ) → List ℕ
   pub outer : (key digest : List ℕ) → List ℕ
   pub hashed : (key message : List ℕ) → hmac key message ≡ sha256 (outer key (sha256 (inner key message)))
   pub tells : (j k m n : List ℕ) → length j ≡ length k → inner j m ≡ inner k n → (j ≡ k) × (m ≡ n)
   pub tells_again : (j k m n : List ℕ) → length j ≡ length k → outer j m ≡ outer k n → (j ≡ k) × (m ≡ n)
+  pub apart : (key message digest : List ℕ) → inner key message ≢ outer key digest
   pub bytes : (key message digest : List ℕ) → AreBytes key → AreBytes message → AreBytes digest
       → AreBytes (inner key message) × AreBytes (outer key digest)
 

@@ -19,7 +19,8 @@ pub fn records_give_back_their_bytes()
     ensures record { GivesBack }
 {}
 
-/// What a code hashes tells its key and its message: codes of two messages, or under two keys, hash different bytes.
+/// What a code hashes tells its key and its message: codes of two messages, or under two keys, hash different bytes. So do the two
+/// hashes of one code, the inner and the outer.
 pub fn codes_cover_their_keys()
     ensures { CodesCoverTheirKeys }
 {}
