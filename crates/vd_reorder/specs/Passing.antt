@@ -1,5 +1,6 @@
 -- The pass over the text of a code.
-use Rattle.std.specs.Prelude.{ℕ, zero, suc, ◌-◌, Bool, true, false, ◌&&◌, if◌then◌else◌, List, [], ◌∷◌, ◌++◌, take, drop, get_or}
+use Rattle.std.specs.Prelude.{◌≡◌, ℕ, zero, suc, ◌-◌, Bool, true, false, ◌&&◌, if◌then◌else◌, List, [], ◌∷◌, ◌++◌, take, drop, get_or, replicate}
+use Rattle.vd_base.specs.declared.ids.HostId.{HostId}
 use Rattle.vd_execution.specs.declared.instructions.Reg.{Reg}
 use Rattle.vd_execution.specs.declared.instructions.Action.TheVariants as action
 use Rattle.vd_execution.specs.declared.instructions.Instr.{Instr}
@@ -134,3 +135,8 @@ TextsArePassed = (test : Piece → Piece → Bool) (n : ℕ) (is : List Instr) (
 pub record IsHastenedText (old new : List Instr) (c : Code) : Type 0 where
   pub nested : IsCodeOf new (hastened_code old c)
   pub careful : IsCarefullyHastened (stays_in old) c (hastened_code old c)
+
+-- Where packets may go ahead of what waits for a peer, sixteen do.
+abbrev pub SixteenPacketsPass : Type 0
+SixteenPacketsPass = (from to : HostId) (awaited sent : List Reg)
+    → hastened_text (λ x y. true) window (instr.Recv from awaited ∷ replicate 16 (instr.Send to sent)) ≡ replicate 16 (instr.Send to sent) ++ instr.Recv from awaited ∷ []

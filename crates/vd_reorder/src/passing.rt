@@ -6,7 +6,7 @@ ghost use Rattle.vd_execution.specs.Text.{IsCodeOf};
 ghost use Rattle.vd_reorder.specs.Careful.{careful};
 ghost use Rattle.vd_reorder.specs.Packets.{stays_by};
 ghost use Rattle.vd_reorder.specs.Passing as passing;
-ghost use Rattle.vd_reorder.specs.Passing.{IsHastenedText, TextsArePassed, hastened_by, hastened_text, risen, sunk_first, window};
+ghost use Rattle.vd_reorder.specs.Passing.{IsHastenedText, SixteenPacketsPass, TextsArePassed, hastened_by, hastened_text, risen, sunk_first, window};
 
 use crate::packets::opened_in;
 use crate::testing::may_pass;
@@ -188,4 +188,9 @@ pub fn hasten_code(alloc: Global, code: Items<Instr>) -> Result<Items<Instr>, Al
 /// The pass over the text of a code gives the text of what the pass over the code gives.
 pub fn texts_are_passed()
     ensures { TextsArePassed }
+{}
+
+/// Where packets may go ahead of what waits for a peer, sixteen do.
+pub fn sixteen_packets_pass()
+    ensures { SixteenPacketsPass }
 {}
