@@ -1,8 +1,10 @@
 -- The file from whose bytes more is said of a status.
-use Rattle.std.specs.Prelude.{ℕ, List, [], ◌∷◌, Option, Some, None, codes, if◌then◌else◌, slice_get}
+use Rattle.std.specs.Prelude.{◌≡◌, ℕ, List, [], ◌∷◌, Option, Some, None, codes, if◌then◌else◌, slice_get}
 use Rattle.std.specs.Option.{option_map_or}
 use Rattle.std.specs.Str.{bytes_eq}
 use Rattle.vd_base.specs.Limits.{most_source_bytes, most_inputs_bytes, most_schedule_bytes}
+use Rattle.vd_parser.specs.declared.fault.ParseFault.{ParseFault}
+use Rattle.vd_report.specs.declared.fault.ReadFault.{ReadFault}
 use Rattle.vd_cmd_plan.specs.declared.status.Status.{Status}
 use Rattle.vd_cmd_plan.specs.declared.status.Status.TheVariants as status
 use Rattle.vd_diag_terminal.specs.declared.files.Reading.{Reading}
@@ -46,3 +48,17 @@ reading_of words (status.Spent budget form) = source_unless (codes "trial") word
 reading_of words (status.InputText fault) = inputs_of words
 reading_of words (status.ScheduleText fault) = Some schedule
 reading_of words status = None
+
+-- the name of the file that is shown for a status
+abbrev pub shown_file : List (List ℕ) → Status → Option (List ℕ)
+shown_file words end = option_map_or (λ reading. word_at words reading.word) (reading_of words end) None
+
+-- Of each file of `replay SOURCE INPUTS PREFIX SCHEDULE` a fault of its text is shown in that file; so is one of the inputs of
+-- `host PROGRAM INPUTS ..`, also behind `host-within SECONDS`.
+pub record FaultsAreShownInTheirFiles : Type 0 where
+  pub sources : (s i p t : List ℕ) (fault : ParseFault) → shown_file (codes "replay" ∷ s ∷ i ∷ p ∷ t ∷ []) (status.Syntax fault) ≡ Some s
+  pub inputs : (s i p t : List ℕ) (fault : ReadFault) → shown_file (codes "replay" ∷ s ∷ i ∷ p ∷ t ∷ []) (status.InputText fault) ≡ Some i
+  pub schedules : (s i p t : List ℕ) (fault : ReadFault) → shown_file (codes "replay" ∷ s ∷ i ∷ p ∷ t ∷ []) (status.ScheduleText fault) ≡ Some t
+  pub hosts : (p i : List ℕ) (more : List (List ℕ)) (fault : ReadFault) → shown_file (codes "host" ∷ p ∷ i ∷ more) (status.InputText fault) ≡ Some i
+  pub within : (s p i : List ℕ) (more : List (List ℕ)) (fault : ReadFault)
+      → shown_file (codes "host-within" ∷ s ∷ p ∷ i ∷ more) (status.InputText fault) ≡ Some i

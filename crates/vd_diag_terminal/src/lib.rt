@@ -6,6 +6,7 @@ mod diag_branches;
 mod diag_choice;
 mod diag_flow;
 mod files;
+mod laws;
 mod programs;
 mod remarks;
 mod telling;
@@ -16,4 +17,5 @@ pub use diag_choice::{
     no_assignment_remark, search_sentence, space_for, valid_lists_stand_at_candidates,
 };
 pub use diag_flow::flow_remark;
+pub use laws::faults_are_shown_in_their_files;
 pub use telling::{Destination, say_more};
