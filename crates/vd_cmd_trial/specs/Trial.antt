@@ -1,5 +1,5 @@
 -- The command `trial`.
-use Rattle.std.specs.Prelude.{ℕ, zero, suc, max, true, false, Option, Some, None, List, [], ◌++◌, length, map, Result}
+use Rattle.std.specs.Prelude.{◌≡◌, ℕ, zero, suc, ◌+◌, max, true, false, Option, Some, None, List, [], ◌++◌, length, map, Result}
 use Rattle.std.specs.List.{fold, range_with_len}
 use Rattle.vd_base.specs.declared.protocols.Proto.{Proto}
 use Rattle.vd_base.specs.Limits.{most_search_budget}
@@ -42,6 +42,11 @@ trial_words many host = map (trial_input host) (range_with_len 0 many)
 
 abbrev pub trial_inputs : (hosts many : ℕ) → List (List ℕ)
 trial_inputs hosts many = map (trial_words many) (range_with_len 0 hosts)
+
+-- The point of the first host is farther from that of each other one by 0, 1, 2 and so on, coordinate by coordinate: so each square that a
+-- trial sums is another one.
+abbrev pub PointsAreApart : Type 0
+PointsAreApart = (host number : ℕ) → trial_input 0 number ≡ trial_input (suc host) number + number
 
 -- how many the host takes at most that takes the most
 abbrev pub most_inputs : List HostNeeds → ℕ

@@ -2,6 +2,8 @@
 #![tactic(auto)]
 
 mod asking;
+mod laws;
 mod trial_command;
 
+pub use laws::points_are_apart;
 pub use trial_command::trial;
