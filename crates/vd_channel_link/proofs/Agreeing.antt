@@ -39,10 +39,10 @@ same_front (x ∷ a) (y ∷ b) c d len e =
     (ap₂ (λ (h : ℕ) (t : List ℕ). h ∷ t) head rest.0, rest.1)
 
 -- a hello but for its nonce, and then the nonce
-abbrev front_of : Hello → List ℕ
+abbrev pub front_of : Hello → List ℕ
 front_of hello = head_of hello.id hello.from.0 hello.to.0
 
-hello_parts : (hello : Hello) (rest : List ℕ) → hello_bytes hello ++ rest ≡ front_of hello ++ (hello.nonce ++ rest)
+pub hello_parts : (hello : Hello) (rest : List ℕ) → hello_bytes hello ++ rest ≡ front_of hello ++ (hello.nonce ++ rest)
 hello_parts hello rest =
     ap (λ (l : List ℕ). (0x47 ∷ 2 ∷ l) ++ rest) (sym (append_assoc hello.id (hello.from.0 ∷ hello.to.0 ∷ []) hello.nonce))
     ∙ ap (λ (l : List ℕ). 0x47 ∷ 2 ∷ l) (append_assoc (hello.id ++ (hello.from.0 ∷ hello.to.0 ∷ [])) hello.nonce rest)

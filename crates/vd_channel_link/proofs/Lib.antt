@@ -16,3 +16,4 @@ mod Saying
 mod Happening
 mod Sealed
 mod Tried
+mod FaultsTell

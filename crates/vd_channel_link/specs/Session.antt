@@ -1,5 +1,5 @@
 -- What is known of a session, and what each call changes of it.
-use Rattle.std.specs.Prelude.{◌≡◌, ◌≤◌, ℕ, ◌+◌, Bool, true, false, not, IsTrue, List, [], ◌++◌, length, take, Result, IfOk, OnErr, if◌then◌else◌, nat_lt}
+use Rattle.std.specs.Prelude.{◌≡◌, ◌≤◌, ℕ, ◌+◌, Bool, true, false, not, IsTrue, List, [], ◌++◌, length, take, min, Result, IfOk, OnErr, if◌then◌else◌, nat_lt}
 use Rattle.vd_outside.specs.Causes.{Rose}
 use Rattle.vd_outside.specs.Link.{LinkView}
 use Rattle.vd_channel_crypto.specs.Keys.{direction}
@@ -41,8 +41,9 @@ pub record NumberGoesOn (session later : Session) (before now : LinkView) : Type
   pub never_back : session.next_out ≤ later.next_out
   pub unused : later.next_out ≡ session.next_out → now ≡ before
 
--- the record with the next number of the own direction went out, with so many of these bytes in it, and nothing else
+-- the record with the next number of the own direction went out, with so many of these bytes in it, and nothing else: all of them, or 128
 pub record SendsRecord (bytes : List ℕ) (session later : Session) (before now : LinkView) (count : ℕ) : Type 0 where
+  pub fills : count ≡ min (length bytes) 128
   pub number : later.next_out ≡ session.next_out + 1
   pub keys : later.ours ≡ session.ours
   pub sends : session.silent ≡ false

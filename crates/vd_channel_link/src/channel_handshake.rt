@@ -5,5 +5,5 @@ mod laws;
 mod meeting;
 
 pub use honest::honest_ends_meet;
-pub use laws::ends_have_the_same_keys;
+pub use laws::{ends_have_the_same_keys, hello_faults_tell};
 pub use meeting::meet;
