@@ -14,3 +14,4 @@ mod Members
 mod LineWords
 mod LinksRead
 mod StatesTold
+mod LabelsRead

@@ -12,3 +12,4 @@ pub mod ChoiceLines
 pub mod LineWords
 pub mod LinksRead
 pub mod StatesTold
+pub mod LabelsRead

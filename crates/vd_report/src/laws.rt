@@ -1,5 +1,6 @@
 //! What is true of every printed line. The functions here do nothing: their contracts are laws.
 
+ghost use Rattle.vd_report.specs.LabelsRead.{LabelsAreWritten};
 ghost use Rattle.vd_report.specs.LinksRead.{LinksAreRead};
 ghost use Rattle.vd_report.specs.StatesTold.{StatesAreTold};
 
@@ -12,4 +13,10 @@ pub fn links_are_read()
 /// The report says `ended`, `ready`, `short input` or `short deal` of a host exactly where that is how it stands.
 pub fn states_are_told()
     ensures { StatesAreTold }
+{}
+
+/// The line of a slot has its label as a source writes it: first its confidentiality and then its integrity, with `&` for both and
+/// `|` for one of two.
+pub fn labels_are_written()
+    ensures { LabelsAreWritten }
 {}
