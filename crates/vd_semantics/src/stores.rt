@@ -64,9 +64,7 @@ pub(crate) fn set_element(array: &mut Words, index: u32, word: u32)
 pub fn zeros(alloc: Global, size: u32) -> Result<Words, AllocError>
     ensures { IfOk result (λ array. array ≡ replicate size 0) }
 {
-    let mut array = Items::new(alloc);
-    for _ in 0..size {
-        array.push(0)?;
-    }
-    Ok(array)
+    let mut array = Vec::new(alloc);
+    array.resize(size as usize, 0)?;
+    Ok(Items::from_vec(array))
 }
