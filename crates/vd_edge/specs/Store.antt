@@ -1,5 +1,5 @@
 -- A store by a new file that takes the place of what stood at a name.
-use Rattle.std.specs.Prelude.{◌≡◌, ◌≢◌, ◌⊎◌, ℕ, Bool, true, false, List, ◌++◌, Option, None, Some, codes, nat_eq, if◌then◌else◌}
+use Rattle.std.specs.Prelude.{◌≡◌, ◌≢◌, ◌⊎◌, ℕ, Bool, true, false, List, ◌++◌, Option, None, Some, Result, OnOk, codes, nat_eq, if◌then◌else◌}
 use Rattle.std.specs.Str.{bytes_eq}
 use Rattle.std.specs.List.{starts_with}
 use Rattle.std.specs.Fmt.{decimal}
@@ -54,6 +54,11 @@ Same before now = (name : List ℕ) → now name ≡ before name
 -- so it does at all other names
 abbrev pub SameElse : List ℕ → Contents → Contents → Type 0
 SameElse name before now = (other : List ℕ) → bytes_eq name other ≡ false → now other ≡ before other
+
+-- a store was refused, and nothing was written
+pub record IsRefused {T E : Type 0} (result : Result T E) (before now : Contents) : Type 0 where
+  pub told : OnOk result ⊥
+  pub same : Same before now
 
 -- a file was given another name
 pub record Moves (from to : List ℕ) (before now : Contents) : Type 0 where

@@ -12,6 +12,12 @@ use std::rt::Files as Disk;
 
 /// Files by name, as a system has them.
 pub trait Directory {
+    /// A file that was made, open to be filled.
+    type File: Drop;
+
+    /// This open file was made at this name.
+    ghost is_made: { Self.File → List ℕ → Type 0 };
+
     /// Whether what stands at each name is known.
     ghost tells: { Bool };
 
@@ -55,17 +61,18 @@ pub trait Directory {
         ensures others { IsTrue tells → SameElse name.now (holds self.old) (holds self.new) }
         ensures begun { began self.new ≡ began self.old };
 
-    /// Makes a file at a name at which nothing stands. Where something stands there, that is an error.
-    fn create(&mut self, name: &str, access: Access) -> io::Result<()>
+    /// Makes a file at a name at which nothing stands, and gives it open. Where something stands there, that is an error.
+    fn create(&mut self, name: &str, access: Access) -> io::Result<Self::File>
+        ensures made { IfOk result (λ file. is_made file name.now) }
         ensures free { OnOk result (IsTrue tells → holds self.old name.now ≡ None) }
         ensures others { OnOk result (IsTrue tells → SameElse name.now (holds self.old) (holds self.new)) }
         ensures kept { OnErr result (IsTrue tells → Same (holds self.old) (holds self.new)) }
         ensures begun { began self.new ≡ began self.old };
 
-    /// Puts all these bytes into the file at a name, and waits until the disk has them.
-    fn fill(&mut self, name: &str, bytes: &[u8], access: Access) -> io::Result<()>
-        ensures all { OnOk result (IsTrue tells → holds self.new name.now ≡ Some bytes.now) }
-        ensures others { IsTrue tells → SameElse name.now (holds self.old) (holds self.new) }
+    /// Puts all these bytes into a file that was made, whatever stands at its name by now, and waits until the disk has them.
+    fn fill(&mut self, file: Self::File, bytes: &[u8], access: Access) -> io::Result<()>
+        ensures all { OnOk result ((name : List ℕ) → is_made file name → IsTrue tells → holds self.new name ≡ Some bytes.now) }
+        ensures others { (name : List ℕ) → is_made file name → IsTrue tells → SameElse name (holds self.old) (holds self.new) }
         ensures begun { began self.new ≡ began self.old };
 
     /// Gives the file at a name another one, in place of what stood there. It is done in one step or not at all.
@@ -115,6 +122,23 @@ fn new_options(access: Access) -> OpenOptions {
     options
 }
 
+/// How often a write is made again that was interrupted.
+const MOST_TRIES: u32 = 64;
+
+/// Writes all these bytes by one call. Where they do not all go in, that is an error: a further call, where files may be no longer, would end
+/// the program by a signal, and leave the file.
+fn write_at_once<W: Write>(file: &mut W, bytes: &[u8]) -> io::Result<()> {
+    for _ in 0..MOST_TRIES {
+        match file.write(bytes) {
+            Ok(count) if count == bytes.len() => return Ok(()),
+            Ok(_) => return Err(io::Error::from(ErrorKind::WriteZero)),
+            Err(error) if error.kind() == ErrorKind::Interrupted => {}
+            Err(error) => return Err(error),
+        }
+    }
+    Err(io::Error::from(ErrorKind::Interrupted))
+}
+
 /// The folder in which a name stands.
 fn folder_of(name: &str) -> &str {
     match name.rsplit_once('/') {
@@ -125,6 +149,10 @@ fn folder_of(name: &str) -> &str {
 }
 
 impl<R: Disk + Drop> Directory for SystemDirectory<R> {
+    type File = R::File;
+
+    ghost is_made = { λ file name. ⊤ };
+
     ghost tells = { false };
 
     ghost holds = { λ directory name. None };
@@ -163,14 +191,13 @@ impl<R: Disk + Drop> Directory for SystemDirectory<R> {
         fs::write(&self.rt, name, bytes)
     }
 
-    fn create(&mut self, name: &str, access: Access) -> io::Result<()> {
-        new_options(access).open(&self.rt, name)?;
-        Ok(())
+    fn create(&mut self, name: &str, access: Access) -> io::Result<R::File> {
+        new_options(access).open(&self.rt, name)
     }
 
-    fn fill(&mut self, name: &str, bytes: &[u8], access: Access) -> io::Result<()> {
-        let mut file = OpenOptions::new().write(true).open(&self.rt, name)?;
-        file.write_all(bytes)?;
+    fn fill(&mut self, file: R::File, bytes: &[u8], access: Access) -> io::Result<()> {
+        let mut file = file;
+        write_at_once(&mut file, bytes)?;
         if let Access::Mode(mode) = access {
             file.set_permissions(Permissions::from_mode(mode))?;
         }

@@ -1,5 +1,5 @@
 ghost use Rattle.std.specs.Prelude.{◌≡◌};
-ghost use Rattle.vd_edge.specs.Store.{StoresOpenNothing, access_of, made_mode};
+ghost use Rattle.vd_edge.specs.Store.{StoresOpenNothing, access_of, is_deal, made_mode};
 
 /// How a file that is made may be read and written.
 #[derive(Clone, Copy, PartialEq, Eq)]
@@ -23,12 +23,19 @@ pub enum Standing {
     Special,
 }
 
+/// Whether these are the bytes of a deal.
+pub(crate) fn is_deal(bytes: &[u8]) -> bool
+    ensures { result ≡ is_deal bytes.now }
+{
+    bytes.starts_with(b"viaduct-deal ")
+}
+
 /// The access of a new file with these bytes in place of what stands there, and `None` where that cannot be replaced. A deal
 /// is for its owner alone.
 pub(crate) fn access_of(standing: Standing, bytes: &[u8]) -> Option<Access>
     ensures { result ≡ access_of standing bytes.now }
 {
-    let is_deal = bytes.starts_with(b"viaduct-deal ");
+    let is_deal = is_deal(bytes);
     match standing {
         Standing::Special => None,
         Standing::Nothing | Standing::Plain(_) if is_deal => Some(Access::Private),

@@ -54,12 +54,12 @@ fn make<D: Directory>(directory: &mut D, place: &str, bytes: &[u8]) -> io::Resul
     ensures others { IsTrue D.tells → SameElse place.now (D.holds directory.old) (D.holds directory.new) }
     ensures stays { OnErr result (IsTrue D.tells → Stays place.now (D.holds directory.old) (D.holds directory.new)) }
 {
-    match directory.create(place, Access::Private) {
-        Ok(()) => {}
+    let file = match directory.create(place, Access::Private) {
+        Ok(file) => file,
         Err(error) if error.kind() == ErrorKind::AlreadyExists => return Ok(false),
         Err(error) => return Err(error),
-    }
-    if let Err(error) = directory.fill(place, bytes, Access::Private) {
+    };
+    if let Err(error) = directory.fill(file, bytes, Access::Private) {
         let _ = directory.remove(place);
         return Err(error);
     }

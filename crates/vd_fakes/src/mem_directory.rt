@@ -141,6 +141,10 @@ impl MemDirectory {
 }
 
 impl Directory for MemDirectory {
+    type File = Text;
+
+    ghost is_made = { λ file name. file ≡ name };
+
     ghost tells = { true };
 
     ghost holds = { λ directory. held_by directory.entries };
@@ -187,17 +191,18 @@ impl Directory for MemDirectory {
         Ok(())
     }
 
-    fn create(&mut self, name: &str, _access: Access) -> io::Result<()> {
+    fn create(&mut self, name: &str, _access: Access) -> io::Result<Text> {
         self.next_change()?;
+        let file = Text::copy_of(self.alloc, name)?;
         if is_held(self.entries.as_slice(), name) {
             return Err(io::Error::from(ErrorKind::AlreadyExists));
         }
         self.put(name, Some(Bytes::new(self.alloc)))?;
-        Ok(())
+        Ok(file)
     }
 
-    fn fill(&mut self, name: &str, bytes: &[u8], _access: Access) -> io::Result<()> {
-        self.write(name, bytes)
+    fn fill(&mut self, file: Text, bytes: &[u8], _access: Access) -> io::Result<()> {
+        self.write(file.as_str(), bytes)
     }
 
     fn rename(&mut self, from: &str, to: &str) -> io::Result<()> {

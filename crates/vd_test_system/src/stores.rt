@@ -43,6 +43,10 @@ impl Shelf {
 }
 
 impl Directory for Shelf {
+    type File = Held;
+
+    ghost is_made = { λ file name. ⊤ };
+
     ghost tells = { false };
 
     ghost holds = { λ shelf name. None };
@@ -78,13 +82,13 @@ impl Directory for Shelf {
         Ok(())
     }
 
-    fn create(&mut self, _name: &str, _access: Access) -> io::Result<()> {
+    fn create(&mut self, _name: &str, _access: Access) -> io::Result<Held> {
         self.ask(Step::Create)?;
         self.beside = Held::Part;
-        Ok(())
+        Ok(Held::Part)
     }
 
-    fn fill(&mut self, _name: &str, _bytes: &[u8], _access: Access) -> io::Result<()> {
+    fn fill(&mut self, _file: Held, _bytes: &[u8], _access: Access) -> io::Result<()> {
         self.ask(Step::Fill)?;
         self.beside = Held::New;
         Ok(())
