@@ -5,9 +5,9 @@ use crate::files::read_front;
 use crate::standing::made_mode;
 use crate::{Access, Standing};
 use std::alloc::Global;
-use std::fs::{self, OpenFile, OpenOptions, Permissions};
+use std::fs::{self, DirBuilder, OpenFile, OpenOptions, Permissions};
 use std::io::{self, ErrorKind, Write};
-use std::os::unix::fs::{OpenOptionsExt, PermissionsExt};
+use std::os::unix::fs::{DirBuilderExt, OpenOptionsExt, PermissionsExt};
 use std::rt::Files as Disk;
 
 /// Files by name, as a system has them.
@@ -85,6 +85,11 @@ pub trait Directory {
     fn remove(&mut self, name: &str) -> io::Result<()>
         ensures gone { OnOk result (IsTrue tells → holds self.new name.now ≡ None) }
         ensures others { IsTrue tells → SameElse name.now (holds self.old) (holds self.new) }
+        ensures begun { began self.new ≡ began self.old };
+
+    /// Makes the folder in which this name stands, and those above it, where there are none.
+    fn make_folder(&mut self, name: &str) -> io::Result<()>
+        ensures same { IsTrue tells → Same (holds self.old) (holds self.new) }
         ensures begun { began self.new ≡ began self.old };
 
     /// Waits until the disk has the names in the folder of this one.
@@ -210,6 +215,13 @@ impl<R: Disk + Drop> Directory for SystemDirectory<R> {
 
     fn remove(&mut self, name: &str) -> io::Result<()> {
         fs::remove_file(&self.rt, name)
+    }
+
+    fn make_folder(&mut self, name: &str) -> io::Result<()> {
+        let mut builder = DirBuilder::new();
+        builder.recursive(true);
+        builder.mode(0o700);
+        builder.create(&self.rt, folder_of(name))
     }
 
     fn settle(&mut self, name: &str) -> io::Result<()> {

@@ -1,10 +1,10 @@
 //! Marks as files of a directory.
 
-ghost use Rattle.std.specs.Prelude.{◌≡◌, IsTrue, None, OnErr, OnOk, Some, false, IfOk, string_bytes};
+ghost use Rattle.std.specs.Prelude.{◌≡◌, ◌≢◌, IsTrue, List, None, ℕ, OnErr, OnOk, Some, false, IfOk, option_map, string_bytes};
 ghost use Rattle.vd_edge.specs.Store.{Same, SameElse};
 ghost use Rattle.vd_outside.specs.Marks.{Claims, Draws, Releases, Stays};
 ghost use Rattle.vd_outside.specs.Places.{mark_at};
-ghost use Rattle.vd_edge_marks.specs.Views.{marks_view};
+ghost use Rattle.vd_edge_marks.specs.Views.{ClaimsFiles, ReleasesFiles, far_of, marks_view};
 
 use crate::randomness::Randomness;
 use std::alloc::Global;
@@ -13,26 +13,30 @@ use vd_base::CallFault;
 use vd_edge::{Access, Directory, count_fault, fault_of, reason_of};
 use vd_outside::{Marks, mark_at};
 
-/// Marks as files of a directory, which only their owner may read, and the random bytes that a source gives.
+/// Marks as files of a directory, which only their owner may read, and the random bytes that a source gives. A mark stands beside the
+/// file for which it is asked and, where the user has a folder for all marks, a second one stands there.
 #[derive(Drop)]
 pub struct RealMarks<D: Directory + Drop, R: Randomness + Drop> {
     directory: D,
     source: R,
     alloc: Global,
+    home: Option<String>,
     faults: u64,
     reason: Option<String>,
 }
 
 impl<D: Directory + Drop, R: Randomness + Drop> RealMarks<D, R> {
-    /// Marks in this directory, which have not failed so far.
-    pub fn new(directory: D, source: R, alloc: Global) -> RealMarks<D, R>
+    /// Marks in this directory, which have not failed so far. The user's folder for all marks, if there is one, is given with its last slash.
+    pub fn new(directory: D, source: R, alloc: Global, home: Option<String>) -> RealMarks<D, R>
         ensures directory { result.directory ≡ directory }
+        ensures home { result.home ≡ home }
         ensures faults { result.faults ≡ 0 }
     {
         RealMarks {
             directory,
             source,
             alloc,
+            home,
             faults: 0,
             reason: None,
         }
@@ -69,6 +73,31 @@ fn make<D: Directory>(directory: &mut D, place: &str, bytes: &[u8]) -> io::Resul
     Ok(true)
 }
 
+/// Makes two new files with these bytes, the far one first, and says whether it did: it does not where something stands at one of the two.
+/// A far file that could not have its near one is removed, but where something stood at the near place it stays.
+fn make_both<D: Directory>(
+    directory: &mut D,
+    far: &str,
+    near: &str,
+    bytes: &[u8],
+) -> io::Result<bool>
+    ensures claims { IsTrue D.tells →
+        ClaimsFiles (Some far.now) near.now bytes.now (D.holds directory.old) (D.holds directory.new) result }
+    ensures settled { IfOk result (λ new. IsTrue new → D.settles directory.new near.now) }
+{
+    directory.make_folder(far)?;
+    if !make(directory, far, bytes)? {
+        return Ok(false);
+    }
+    match make(directory, near, bytes) {
+        Ok(new) => Ok(new),
+        Err(error) => {
+            let _ = directory.remove(far);
+            Err(error)
+        }
+    }
+}
+
 /// The name of the file of a mark.
 fn place_of(alloc: Global, beside: &str, name: &[u8]) -> io::Result<String>
     ensures { IfOk result (λ place. string_bytes place ≡ mark_at beside.now name.now) }
@@ -78,6 +107,54 @@ fn place_of(alloc: Global, beside: &str, name: &[u8]) -> io::Result<String>
         ErrorKind::InvalidInput,
     ))?;
     Ok(String::from_str(alloc, text)?)
+}
+
+/// The name of the file of a mark in the user's folder for all marks, where there is one.
+fn far_of(alloc: Global, home: Option<&str>, name: &[u8]) -> io::Result<Option<String>>
+    ensures { IfOk result (λ far. option_map string_bytes far ≡ far_of home name.now) }
+{
+    match home {
+        None => Ok(None),
+        Some(home) => Ok(Some(place_of(alloc, home, name)?)),
+    }
+}
+
+/// Makes a mark beside a file, and in the user's folder for all marks, where there is one. It says whether the mark is new.
+fn claim_files<D: Directory>(
+    directory: &mut D,
+    alloc: Global,
+    home: Option<&str>,
+    beside: &str,
+    name: &[u8],
+    bytes: &[u8],
+) -> io::Result<bool>
+    ensures claims { IsTrue D.tells → ClaimsFiles (far_of home name.now) (mark_at beside.now name.now) bytes.now
+        (D.holds directory.old) (D.holds directory.new) result }
+    ensures settled { IfOk result (λ new. IsTrue new → D.settles directory.new (mark_at beside.now name.now)) }
+{
+    let near = place_of(alloc, beside, name)?;
+    match far_of(alloc, home, name)? {
+        None => make(directory, near.as_str(), bytes),
+        Some(far) => make_both(directory, far.as_str(), near.as_str(), bytes),
+    }
+}
+
+/// Removes a mark, the one in the folder for all marks first.
+fn release_files<D: Directory>(
+    directory: &mut D,
+    alloc: Global,
+    home: Option<&str>,
+    beside: &str,
+    name: &[u8],
+) -> io::Result<()>
+    ensures { IsTrue D.tells → ReleasesFiles (far_of home name.now) (mark_at beside.now name.now)
+        (D.holds directory.old) (D.holds directory.new) result }
+{
+    let near = place_of(alloc, beside, name)?;
+    if let Some(far) = far_of(alloc, home, name)? {
+        directory.remove(far.as_str())?;
+    }
+    directory.remove(near.as_str())
 }
 
 impl<D: Directory + Drop, R: Randomness + Drop> Marks for RealMarks<D, R> {
@@ -104,23 +181,13 @@ impl<D: Directory + Drop, R: Randomness + Drop> Marks for RealMarks<D, R> {
 
     fn claim(&mut self, beside: &str, name: &[u8], bytes: &[u8]) -> Result<bool, CallFault>
         ensures claims { Claims beside.now name.now bytes.now (marks_view self.old.faults) (marks_view self.new.faults) result }
-        ensures free { IfOk result (λ new. IsTrue new → IsTrue D.tells →
-            D.holds self.old.directory (mark_at beside.now name.now) ≡ None) }
-        ensures made { IfOk result (λ new. IsTrue new → IsTrue D.tells →
-            D.holds self.new.directory (mark_at beside.now name.now) ≡ Some bytes.now) }
+        ensures files { IsTrue D.tells → ClaimsFiles (far_of (option_map string_bytes self.old.home) name.now)
+            (mark_at beside.now name.now) bytes.now (D.holds self.old.directory) (D.holds self.new.directory) result }
         ensures settled { IfOk result (λ new. IsTrue new → D.settles self.new.directory (mark_at beside.now name.now)) }
-        ensures kept { IfOk result (λ new. new ≡ false → IsTrue D.tells →
-            Same (D.holds self.old.directory) (D.holds self.new.directory)) }
-        ensures others { IsTrue D.tells →
-            SameElse (mark_at beside.now name.now) (D.holds self.old.directory) (D.holds self.new.directory) }
-        ensures stays { OnErr result (IsTrue D.tells →
-            Stays (mark_at beside.now name.now) (D.holds self.old.directory) (D.holds self.new.directory)) }
+        ensures home { self.new.home ≡ self.old.home }
     {
-        let made = match place_of(self.alloc, beside, name) {
-            Ok(place) => make(&mut self.directory, place.as_str(), bytes),
-            Err(error) => Err(error),
-        };
-        match made {
+        let home = self.home.as_deref();
+        match claim_files(&mut self.directory, self.alloc, home, beside, name, bytes) {
             Ok(new) => Ok(new),
             Err(error) => {
                 self.reason = reason_of(self.alloc, "mark", beside, &error);
@@ -133,15 +200,12 @@ impl<D: Directory + Drop, R: Randomness + Drop> Marks for RealMarks<D, R> {
 
     fn release(&mut self, beside: &str, name: &[u8]) -> Result<(), CallFault>
         ensures releases { Releases beside.now name.now (marks_view self.old.faults) (marks_view self.new.faults) result }
-        ensures gone { OnOk result (IsTrue D.tells → D.holds self.new.directory (mark_at beside.now name.now) ≡ None) }
-        ensures others { IsTrue D.tells →
-            SameElse (mark_at beside.now name.now) (D.holds self.old.directory) (D.holds self.new.directory) }
+        ensures files { IsTrue D.tells → ReleasesFiles (far_of (option_map string_bytes self.old.home) name.now)
+            (mark_at beside.now name.now) (D.holds self.old.directory) (D.holds self.new.directory) result }
+        ensures home { self.new.home ≡ self.old.home }
     {
-        let removed = match place_of(self.alloc, beside, name) {
-            Ok(place) => self.directory.remove(place.as_str()),
-            Err(error) => Err(error),
-        };
-        match removed {
+        let home = self.home.as_deref();
+        match release_files(&mut self.directory, self.alloc, home, beside, name) {
             Ok(()) => Ok(()),
             Err(error) => {
                 self.reason = reason_of(self.alloc, "unmark", beside, &error);

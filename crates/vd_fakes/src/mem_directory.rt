@@ -223,6 +223,10 @@ impl Directory for MemDirectory {
         Ok(())
     }
 
+    fn make_folder(&mut self, _name: &str) -> io::Result<()> {
+        Ok(())
+    }
+
     fn settle(&mut self, _name: &str) -> io::Result<()> {
         self.next_change()
     }

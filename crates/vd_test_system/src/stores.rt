@@ -107,6 +107,10 @@ impl Directory for Shelf {
         Ok(())
     }
 
+    fn make_folder(&mut self, _name: &str) -> io::Result<()> {
+        Ok(())
+    }
+
     fn settle(&mut self, _name: &str) -> io::Result<()> {
         Ok(())
     }

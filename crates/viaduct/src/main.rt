@@ -58,6 +58,27 @@ fn parent(rt: &HostRuntime) -> Option<u32> {
     }
 }
 
+/// The folder that a variable names, where it is set to one by its whole name.
+fn folder_in(rt: &HostRuntime, variable: &str) -> Result<Option<String>, AllocError> {
+    match env::var(rt, variable) {
+        Ok(folder) if folder.as_str().starts_with('/') => Ok(Some(folder)),
+        Err(VarError::OutOfMemory) => Err(AllocError),
+        _ => Ok(None),
+    }
+}
+
+/// The folder in which the marks of all deals of this user stand, with its last slash: none where the system names none.
+fn marks_home(rt: &HostRuntime) -> Result<Option<String>, AllocError> {
+    let alloc = rt.alloc();
+    if let Some(state) = folder_in(rt, "XDG_STATE_HOME")? {
+        return Ok(Some(format!(in alloc; "{state}/viaduct/used/")?));
+    }
+    match folder_in(rt, "HOME")? {
+        Some(home) => Ok(Some(format!(in alloc; "{home}/.local/state/viaduct/used/")?)),
+        None => Ok(None),
+    }
+}
+
 /// Who started this program, with which words.
 fn caller_of(rt: &HostRuntime) -> io::Result<Caller> {
     let stream = rt.stderr();
@@ -164,6 +185,8 @@ struct Beginning {
     runtimes: Runtimes,
     process: u32,
     waits: Waits,
+    /// The folder in which the marks of all deals of this user stand.
+    home: Option<String>,
 }
 
 /// What is known before a run. An error is that there was no memory.
@@ -171,11 +194,13 @@ fn begin(rt: HostRuntime) -> io::Result<Beginning> {
     let caller = caller_of(&rt)?;
     let process = process::id(rt.process());
     let waits = Waits::new(rt.process(), parent(&rt));
+    let home = marks_home(&rt)?;
     Ok(Beginning {
         caller,
         runtimes: runtimes_of(rt)?,
         process,
         waits,
+        home,
     })
 }
 
@@ -215,6 +240,7 @@ fn run(
         runtimes,
         process,
         waits,
+        home,
     } = beginning;
     let Runtimes {
         net,
@@ -226,7 +252,7 @@ fn run(
     let sockets = SystemSockets::new(net, alloc, waits);
     let outside = Outside {
         files: RealFiles::new(SystemDirectory::new(files, process), alloc),
-        marks: RealMarks::new(SystemDirectory::new(marks, process), random, alloc),
+        marks: RealMarks::new(SystemDirectory::new(marks, process), random, alloc, home),
         out,
         err,
         net: SealedNet::new(alloc, RealNet::new(sockets, alloc)),
