@@ -101,7 +101,8 @@ def deal_texts(key, counts):
                 lines.append(f"link {k} " + link_key(key, counts, me, k).hex())
                 for name, (n, x) in zip(("mul", "and", "pair"), parts[me, k]):
                     lines.append(" ".join([name, str(k), str(n)] + [str(v) for v in x]))
-        texts.append("".join(line + "\n" for line in lines))
+        text = "".join(line + "\n" for line in lines)
+        texts.append(text + "sum " + hashlib.sha256(text.encode()).hexdigest() + "\n")
     return texts
 
 

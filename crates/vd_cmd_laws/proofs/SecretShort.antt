@@ -11,7 +11,8 @@ use Rattle.vd_tape.specs.Validity.{ArePairWords, AreTripleWords, AreWithin, peer
 use Rattle.vd_base_codec.specs.Digits.{IsByte, IsKey, hex_byte, key_text}
 use Rattle.vd_channel_crypto.specs.declared.deal_keys.secrets.LinkKey.{LinkKey}
 use Rattle.vd_tape.specs.Text.{list_text, share_text}
-use Rattle.vd_deal_versions.specs.Text.{front_text, link_text, linked_text}
+use Rattle.vd_deal_versions.specs.Text.{body_text, front_text, link_text, linked_text, sum_line}
+use Rattle.vd_deal_versions.proofs.Front.{sum_long}
 use Rattle.vd_cmd_laws.specs.KeyedDealt.{SecretTextsAreShort}
 use Rattle.vd_cmd_laws.proofs.CmdDealLawsShort.{both_short, field_short, items_short, own_short, pairs_short, peer_low, share_short, triples_short}
 
@@ -78,4 +79,7 @@ secret_texts_are_short hosts me x of =
     (both_short (codes "\nown") lists 4 11534348 (lit≤ tt) (own_short x.deal.own of.0.words.own is.own))))) in
     let whole = both_short (codes "viaduct-deal 2") (front_text x.deal x.secrets ++ linked_text x.deal.me.0 0 x.secrets.links x.deal.triples x.deal.bits x.deal.pairs) 14 288358986 (lit≤ tt)
     (both_short (front_text x.deal x.secrets) (linked_text x.deal.me.0 0 x.secrets.links x.deal.triples x.deal.bits x.deal.pairs) 11534442 276824544 front linked) in
-    omega (arith, whole)
+    let body : List ℕ = body_text x in
+    let line = sum_long body in
+    let all = length-append body (sum_line body) in
+    omega (arith, whole, line, all)

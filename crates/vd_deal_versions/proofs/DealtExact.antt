@@ -13,7 +13,7 @@ use Rattle.vd_tape.specs.Reading.{deal_at}
 use Rattle.vd_tape.proofs.Front.{Fit, fit, is_deal_of, deal_exact}
 use Rattle.vd_deal_versions.specs.declared.dealt.SecretDeal.{SecretDeal}
 use Rattle.vd_deal_versions.specs.declared.dealt.Dealt.{Dealt}
-use Rattle.vd_deal_versions.specs.Text.{front_text, linked_text, secret_text, secret_of, text_by, dealt_text, Fit_by, IsSecretDealOf, IsDealtOf}
+use Rattle.vd_deal_versions.specs.Text.{body_text, front_text, linked_text, secret_text, sum_line, secret_of, text_by, dealt_text, Fit_by, IsSecretDealOf, IsDealtOf}
 use Rattle.vd_deal_versions.specs.Reading.{is_second, secret_at, with_secrets, dealt_at, dealt_read}
 use Rattle.vd_deal_versions.specs.Outcome.{DealtFilesFollowGrammar}
 use Rattle.vd_deal_versions.proofs.SecretExact.{secret_exact}
@@ -33,7 +33,7 @@ version dealt = version_by dealt.secrets
 
 abbrev rest_by : Deal → Option Secrets → List ℕ
 rest_by deal None = field deal.hosts ++ (field deal.me.0 ++ (10 ∷ (codes "own" ++ (list_text field deal.own ++ shares_text deal.me.0 0 deal.triples deal.bits deal.pairs))))
-rest_by deal (Some secrets) = front_text deal secrets ++ linked_text deal.me.0 0 secrets.links deal.triples deal.bits deal.pairs
+rest_by deal (Some secrets) = (front_text deal secrets ++ linked_text deal.me.0 0 secrets.links deal.triples deal.bits deal.pairs) ++ sum_line (body_text (secret_of deal secrets))
 
 rest_is : (deal : Deal) (secrets : Option Secrets) → text_by deal secrets ≡ front ++ version_by secrets ∷ rest_by deal secrets
 rest_is deal None = refl

@@ -6,5 +6,6 @@ mod LinksWritten
 mod Outcomes
 mod PlainExact
 mod SecretExact
+mod Sums
 mod Versions
 mod Begins

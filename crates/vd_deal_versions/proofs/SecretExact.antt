@@ -1,11 +1,11 @@
 -- A whole file of version 2 is read exactly.
-use Rattle.std.proofs.Common.{◌≡◌, ℕ, ◌-◌, ◌<◌, ◌≤◌, List, [], ◌∷◌, ◌++◌, length, Ok, refl, sym, ap, ◌∙◌, append_assoc}
+use Rattle.std.proofs.Common.{◌≡◌, ℕ, ◌-◌, ◌<◌, ◌≤◌, List, [], ◌∷◌, ◌++◌, length, Ok, Err, refl, sym, ap, subst, ◌∙◌, append_assoc, length-append, take, arith}
 use Rattle.std.specs.Prelude.{codes}
-use Rattle.std.proofs.lemmas.List.{append-nil}
+use Rattle.std.proofs.lemmas.List.{append-nil, take_at}
 use Rattle.vd_base.specs.Limits.{most_hosts}
-use Rattle.vd_base_codec.specs.Reading.{◌>>=◌, literal_at, field}
+use Rattle.vd_base_codec.specs.Reading.{Reading, ◌>>=◌, literal_at, field}
 use Rattle.vd_base_codec.specs.Exact.{IsAnything, IsExact}
-use Rattle.vd_base_codec.proofs.Front.{done_exact, literal_exact, Picks, then_exact, AreEach, exact_as, exact_for, some_key, key_exact}
+use Rattle.vd_base_codec.proofs.Front.{done_exact, literal_exact, Picks, later, stopped_first, then_exact, AreEach, exact_as, exact_for, some_key, key_exact}
 use Rattle.vd_base.specs.Words.{IsWord}
 use Rattle.vd_base_codec.specs.Digits.{IsKey, key_at, key_text}
 use Rattle.vd_tape.specs.Text.{list_text, IsDealOf}
@@ -13,8 +13,8 @@ use Rattle.vd_tape.specs.Reading.{word_at, list_at}
 use Rattle.vd_tape.proofs.Front.{FitsList, own_exact, none_fits, Fit, fit, fit_made, is_deal_of}
 use Rattle.vd_deal_versions.specs.declared.dealt.SecretDeal.{SecretDeal}
 use Rattle.vd_deal_versions.specs.declared.reading.Linked.{Linked}
-use Rattle.vd_deal_versions.specs.Text.{linked_text, secret_text, AreSecretsOf, IsSecretDealOf}
-use Rattle.vd_deal_versions.specs.Reading.{front_at, linked_at, secret_at, secret_with}
+use Rattle.vd_deal_versions.specs.Text.{body_text, linked_text, secret_text, sum_line, AreSecretsOf, IsSecretDealOf}
+use Rattle.vd_deal_versions.specs.Reading.{before, body_at, front_at, linked_at, secret_at, secret_with}
 use Rattle.vd_deal_versions.proofs.LinksExact.{FitsLink, FitsLinked, texts_of, some_linked, linked_exact, shares_in}
 
 -- ---- what fits
@@ -96,7 +96,7 @@ text_with hosts me x = front_bytes hosts me x.secrets.id ++ behind_front me x
 regroup : (a b c d e f g h : List ℕ) → a ++ ((b ++ (c ++ (d ++ (e ++ (f ++ g))))) ++ h) ≡ (a ++ (b ++ (c ++ (d ++ (e ++ f))))) ++ (g ++ h)
 regroup a b c d e f g h = simp append_assoc refl
 
-same_text : (hosts me : ℕ) (x : SecretDeal) → FitSecret hosts me x → secret_text x ≡ text_with hosts me x
+same_text : (hosts me : ℕ) (x : SecretDeal) → FitSecret hosts me x → body_text x ≡ text_with hosts me x
 same_text hosts me x h =
     ap (λ n. codes "viaduct-deal 2" ++ ((field n ++ (field x.deal.me.0 ++ (codes "\nid " ++ (key_text x.secrets.id ++ (codes "\nown" ++ list_text field x.deal.own)))))
     ++ texts_of x.deal.me.0 0 (linked_in x))) h.0.hosts_are
@@ -130,8 +130,8 @@ picks_linked hosts me id own fits_id fits_own = record {
   break = λ x behind h k. tt;
 }
 
-parts_exact : (hosts me : ℕ) (bytes : List ℕ) → IsExact IsAnything (FitSecret hosts me) (text_with hosts me) bytes (secret_at hosts me bytes)
-unfolding secret_at
+parts_exact : (hosts me : ℕ) (bytes : List ℕ) → IsExact IsAnything (FitSecret hosts me) (text_with hosts me) bytes (body_at hosts me bytes)
+unfolding body_at
 parts_exact hosts me bytes =
     then_exact IsAnything IsKey (front_bytes hosts me) IsAnything (FitSecret hosts me) (text_with hosts me) (behind_front me) (λ x. x.secrets.id) (picks_front hosts me) bytes (front_at hosts me bytes)
     (λ id. list_at word_at id.1 >>= λ own. linked_at me 0 (hosts - 1) own.1 >>= λ ls. Ok (secret_with hosts me id.0 own.0 ls.0, ls.1)) (front_exact hosts me bytes)
@@ -146,7 +146,46 @@ parts_exact hosts me bytes =
     (((fit_with hosts me id own ls fits_id fits_own h, refl), refl), refl)
     (λ x g. same_secret x hosts me id own ls g.0.0.0.0.hosts_are g.0.0.0.0.me_is g.0.0.1 g.0.1 g.1))))
 
+body_exact : (hosts me : ℕ) (bytes : List ℕ) → hosts ≤ most_hosts → me < hosts → IsExact IsAnything (IsSecretDealOf hosts me) body_text bytes (body_at hosts me bytes)
+body_exact hosts me bytes few below =
+    exact_for IsAnything (FitSecret hosts me) (IsSecretDealOf hosts me) body_text bytes (body_at hosts me bytes) (λ x. is_secret hosts me x few below) (fit_secret hosts me)
+    (exact_as IsAnything (FitSecret hosts me) (text_with hosts me) body_text bytes (body_at hosts me bytes) (same_text hosts me) (parts_exact hosts me bytes))
+
+-- ---- the last line
+
+abbrev sum_of : SecretDeal → List ℕ
+sum_of x = sum_line (body_text x)
+
+picks_body : (Fits : SecretDeal → Type 0) → Picks IsAnything Fits body_text IsAnything Fits secret_text sum_of (λ x. x)
+picks_body Fits = record {
+  part_fits = λ x h. h;
+  split = λ x h. refl;
+  some = λ x h. (x, (h, refl));
+  break = λ x behind h k. tt;
+}
+
+before_is : (all front left : List ℕ) → all ≡ front ++ left → before all left ≡ front
+before_is all front left e =
+    ap (λ (bs : List ℕ). before bs left) e ∙ take_at front left (length (front ++ left) - length left) (omega (arith, length-append front left))
+
+sum_exact : (Fits : SecretDeal → Type 0) (x : SecretDeal) (left : List ℕ) → Fits x
+    → IsExact IsAnything (λ y. Fits y × (y ≡ x)) sum_of left (literal_at (sum_of x) left >>= λ line. Ok (x, line.1))
+sum_exact Fits x left h =
+    exact_as IsAnything (λ y. Fits y × (y ≡ x)) (λ _. sum_of x ++ []) sum_of left (literal_at (sum_of x) left >>= λ line. Ok (x, line.1))
+    (λ y g. ap sum_of g.1 ∙ sym (append-nil (sum_of x)))
+    (literal_exact IsAnything (λ y. Fits y × (y ≡ x)) (λ _. []) (sum_of x) left x (λ last. Ok (x, last)) (h, refl)
+    (λ last. done_exact IsAnything (λ y. Fits y × (y ≡ x)) x last (h, refl) (λ y g. g.1)))
+
+abbrev then_sum : (bytes : List ℕ) → SecretDeal × List ℕ → Reading SecretDeal
+then_sum bytes x = literal_at (sum_line (before bytes x.1)) x.1 >>= λ line. Ok (x.0, line.1)
+
+summed : (Fits : SecretDeal → Type 0) (bytes : List ℕ) (r : Reading SecretDeal) → IsExact IsAnything Fits body_text bytes r → IsExact IsAnything Fits secret_text bytes (r >>= then_sum bytes)
+summed Fits bytes (Ok x) exact =
+    later IsAnything Fits body_text IsAnything Fits secret_text sum_of (λ y. y) (picks_body Fits) bytes x.0 x.1 exact (then_sum bytes x)
+    (subst (λ (body : List ℕ). IsExact IsAnything (λ y. Fits y × (y ≡ x.0)) sum_of x.1 (literal_at (sum_line body) x.1 >>= λ line. Ok (x.0, line.1)))
+    (sym (before_is bytes (body_text x.0) x.1 exact.split)) (sum_exact Fits x.0 x.1 exact.fits))
+summed Fits bytes (Err over) exact = stopped_first IsAnything Fits body_text IsAnything Fits secret_text sum_of (λ y. y) (picks_body Fits) bytes over exact
+
 pub secret_exact : (hosts me : ℕ) (bytes : List ℕ) → hosts ≤ most_hosts → me < hosts → IsExact IsAnything (IsSecretDealOf hosts me) secret_text bytes (secret_at hosts me bytes)
-secret_exact hosts me bytes few below =
-    exact_for IsAnything (FitSecret hosts me) (IsSecretDealOf hosts me) secret_text bytes (secret_at hosts me bytes) (λ x. is_secret hosts me x few below) (fit_secret hosts me)
-    (exact_as IsAnything (FitSecret hosts me) (text_with hosts me) secret_text bytes (secret_at hosts me bytes) (same_text hosts me) (parts_exact hosts me bytes))
+unfolding secret_at
+secret_exact hosts me bytes few below = summed (IsSecretDealOf hosts me) bytes (body_at hosts me bytes) (body_exact hosts me bytes few below)

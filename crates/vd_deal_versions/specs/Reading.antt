@@ -1,11 +1,12 @@
 -- What is read of a deal file of either version, from left to right.
-use Rattle.std.specs.Prelude.{ℕ, zero, suc, ◌+◌, ◌-◌, ◌==◌, Bool, List, [], ◌∷◌, Result, Ok, Some, None, codes, slice_index, if◌then◌else◌}
+use Rattle.std.specs.Prelude.{ℕ, zero, suc, ◌+◌, ◌-◌, ◌==◌, Bool, List, [], ◌∷◌, Result, Ok, Some, None, codes, length, slice_index, take, if◌then◌else◌}
 use Rattle.vd_base_codec.specs.Reading.{Reading, ◌>>=◌, byte_at, literal_at, field}
 use Rattle.vd_base_codec.specs.Exact.{whole}
 use Rattle.vd_tape.specs.Validity.{peer_at}
 use Rattle.vd_base_codec.specs.Digits.{key_at}
 use Rattle.vd_channel_crypto.specs.declared.deal_keys.secrets.LinkKey.{LinkKey}
 use Rattle.vd_tape.specs.Reading.{word_at, list_at, heading_at, share_at, deal_at}
+use Rattle.vd_deal_versions.specs.Text.{sum_line}
 use Rattle.vd_deal_versions.specs.declared.dealt.SecretDeal.{SecretDeal}
 use Rattle.vd_deal_versions.specs.declared.dealt.Dealt.{Dealt}
 use Rattle.vd_deal_versions.specs.declared.reading.Linked.{Linked}
@@ -60,13 +61,24 @@ secret_with hosts me id own ls = record {
   secrets = record { id = id; links = ls.links };
 }
 
--- a file of version 2
-unfoldable pub secret_at : ℕ → ℕ → List ℕ → Reading SecretDeal
-secret_at hosts me bs = do
+-- a file of version 2 up to its last line
+unfoldable pub body_at : ℕ → ℕ → List ℕ → Reading SecretDeal
+body_at hosts me bs = do
   id ← front_at hosts me bs
   own ← list_at word_at id.1
   ls ← linked_at me 0 (hosts - 1) own.1
   Ok (secret_with hosts me id.0 own.0 ls.0, ls.1)
+
+-- what stands before the bytes that are left
+abbrev pub before : (all left : List ℕ) → List ℕ
+before all left = take (length all - length left) all
+
+-- a file of version 2: behind all else stands the line of its digest
+unfoldable pub secret_at : ℕ → ℕ → List ℕ → Reading SecretDeal
+secret_at hosts me bs = do
+  dealt ← body_at hosts me bs
+  line ← literal_at (sum_line (before bs dealt.1)) dealt.1
+  Ok (dealt.0, line.1)
 
 -- the byte of the version is a 2
 abbrev pub is_second : List ℕ → Bool

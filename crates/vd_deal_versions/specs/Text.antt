@@ -1,6 +1,7 @@
 -- The files of deals, of both versions.
 use Rattle.std.specs.Prelude.{◌≡◌, ◌-◌, ℕ, ◌+◌, List, [], ◌∷◌, ◌++◌, Option, Some, None, codes, length}
 use Rattle.std.specs.List.{AllByRecursion}
+use Rattle.sha2.specs.Sha256.{sha256}
 use Rattle.vd_base_codec.specs.Reading.{field}
 use Rattle.vd_tape.specs.declared.deal_items.items.Triple.{Triple}
 use Rattle.vd_tape.specs.declared.deal_items.items.PairItem.{PairItem}
@@ -31,11 +32,19 @@ abbrev pub front_text : Deal → Secrets → List ℕ
 front_text deal secrets =
     field deal.hosts ++ (field deal.me.0 ++ (codes "\nid " ++ (key_text secrets.id ++ (codes "\nown" ++ list_text field deal.own))))
 
--- the whole file of version 2
-abbrev pub secret_text : SecretDeal → List ℕ
-secret_text x =
+-- a file of version 2 up to its last line
+abbrev pub body_text : SecretDeal → List ℕ
+body_text x =
     codes "viaduct-deal 2" ++ (front_text x.deal x.secrets
     ++ linked_text x.deal.me.0 0 x.secrets.links x.deal.triples x.deal.bits x.deal.pairs)
+
+-- the last line: the SHA-256 of all that stands before it
+abbrev pub sum_line : (body : List ℕ) → List ℕ
+sum_line body = codes "sum " ++ (key_text (sha256 body) ++ codes "\n")
+
+-- the whole file of version 2
+abbrev pub secret_text : SecretDeal → List ℕ
+secret_text x = body_text x ++ sum_line (body_text x)
 
 -- 32 bytes for the name of the dealing and for each link
 pub record AreSecretsOf (hosts : ℕ) (secrets : Secrets) : Type 0 where

@@ -36,7 +36,7 @@ fn read_bytes(alloc: Global, bytes: &[u8], hosts: u8, me: HostId) -> Result<Deal
     ensures err { IfErr result (λ fault. IsFaultOf (dealt_read hosts me.0 bytes.now) fault) }
 {
     let mut cursor = Cursor::new(bytes);
-    match read_file(alloc, &mut cursor, hosts, me) {
+    match read_file(alloc, &mut cursor, bytes, hosts, me) {
         Ok(dealt) => Ok(dealt),
         Err(CodecFault::Stopped) => Err(FileFault::Text(offset(bytes.len() - cursor.len()))),
         Err(CodecFault::Memory) => Err(FileFault::Memory),

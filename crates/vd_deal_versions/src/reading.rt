@@ -2,9 +2,10 @@
 
 ghost use Rattle.std.specs.Prelude.{◌≡◌, ◌<◌};
 ghost use Rattle.vd_base_codec.specs.Reading.{Gives, GivesOrMemory, to_the_end};
-ghost use Rattle.vd_deal_versions.specs.Reading.{dealt_at, is_second, front_at, link_at, linked_at, one_at, secret_at};
+ghost use Rattle.vd_deal_versions.specs.Reading.{body_at, dealt_at, is_second, front_at, link_at, linked_at, one_at, secret_at};
 
 use crate::dealt::{Dealt, SecretDeal};
+use crate::sums::read_sum;
 use std::alloc::Global;
 use vd_base::{HostId, Items};
 use vd_base_codec::{CodecFault, Cursor, Stopped, read_key};
@@ -37,33 +38,37 @@ fn is_second(cursor: &Cursor) -> bool
     bytes.len() > 13 && bytes[13] == b'2'
 }
 
-/// The whole file.
+/// The whole file, which has these bytes.
 pub(crate) fn read_file(
     alloc: Global,
     cursor: &mut Cursor,
+    bytes: &[u8],
     hosts: u8,
     me: HostId,
 ) -> Result<Dealt, CodecFault>
-    requires { 0 < hosts }
+    requires hosts { 0 < hosts }
+    requires begun { cursor.old ≡ bytes.now }
     ensures { GivesOrMemory result cursor.new (to_the_end (dealt_at hosts me.0 cursor.old)) }
 {
-    let dealt = read_either(alloc, cursor, hosts, me)?;
+    let dealt = read_either(alloc, cursor, bytes, hosts, me)?;
     cursor.end()?;
     Ok(dealt)
 }
 
-/// A file of either version.
+/// A file of either version, which has these bytes.
 fn read_either(
     alloc: Global,
     cursor: &mut Cursor,
+    bytes: &[u8],
     hosts: u8,
     me: HostId,
 ) -> Result<Dealt, CodecFault>
-    requires { 0 < hosts }
+    requires hosts { 0 < hosts }
+    requires begun { cursor.old ≡ bytes.now }
     ensures { GivesOrMemory result cursor.new (dealt_at hosts me.0 cursor.old) }
 {
     if is_second(cursor) {
-        let SecretDeal { deal, secrets } = read_version_2(alloc, cursor, hosts, me)?;
+        let SecretDeal { deal, secrets } = read_version_2(alloc, cursor, bytes, hosts, me)?;
         Ok(Dealt {
             deal,
             secrets: Some(secrets),
@@ -77,16 +82,35 @@ fn read_either(
     }
 }
 
-/// A file of version 2.
+/// A file of version 2, which has these bytes: the last line has the digest of all that stands before it.
 #[tactic(auto, unfolding(crate::specs::Reading::secret_at))]
 fn read_version_2(
+    alloc: Global,
+    cursor: &mut Cursor,
+    bytes: &[u8],
+    hosts: u8,
+    me: HostId,
+) -> Result<SecretDeal, CodecFault>
+    requires hosts { 0 < hosts }
+    requires begun { cursor.old ≡ bytes.now }
+    ensures { GivesOrMemory result cursor.new (secret_at hosts me.0 cursor.old) }
+{
+    let dealt = read_body(alloc, cursor, hosts, me)?;
+    let count = bytes.len().saturating_sub(cursor.len());
+    read_sum(alloc, cursor, &bytes[..count])?;
+    Ok(dealt)
+}
+
+/// A file of version 2 up to its last line.
+#[tactic(auto, unfolding(crate::specs::Reading::body_at))]
+fn read_body(
     alloc: Global,
     cursor: &mut Cursor,
     hosts: u8,
     me: HostId,
 ) -> Result<SecretDeal, CodecFault>
     requires { 0 < hosts }
-    ensures { GivesOrMemory result cursor.new (secret_at hosts me.0 cursor.old) }
+    ensures { GivesOrMemory result cursor.new (body_at hosts me.0 cursor.old) }
 {
     let id = read_front(cursor, hosts, me)?;
     let own = read_list(alloc, cursor)?;

@@ -1,11 +1,12 @@
 //! The writer of deal files of version 2.
 
 ghost use Rattle.std.specs.Prelude.{◌≡◌, ◌<◌, ◌++◌, Some, IfOk, OnOk, length, slice_get};
-ghost use Rattle.vd_deal_versions.specs.Text.{front_text, link_text, linked_text, secret_of, secret_text};
+ghost use Rattle.vd_deal_versions.specs.Text.{body_text, front_text, link_text, linked_text, secret_of, secret_text};
 ghost use Rattle.vd_base_codec.specs.Digits.{key_text};
 ghost use Rattle.vd_tape.specs.Text.{share_text};
 ghost use Rattle.vd_tape.specs.Validity.{peer_at};
 
+use crate::sums::sum_line;
 use std::alloc::{AllocError, Global};
 use vd_base::Bytes;
 use vd_base_codec::{push_field, push_key};
@@ -15,6 +16,16 @@ use vd_tape::{Deal, PairItem, Triple, push_heading, push_list, push_share};
 /// The one text of a deal and of what its host knows of the dealing besides.
 pub fn write_secret(alloc: Global, deal: &Deal, secrets: &Secrets) -> Result<Bytes, AllocError>
     ensures { IfOk result (λ text. text ≡ secret_text (secret_of deal.now secrets.now)) }
+{
+    let mut text = write_body(alloc, deal, secrets)?;
+    let line = sum_line(alloc, text.as_slice())?;
+    text.extend_from_slice(line.as_slice())?;
+    Ok(text)
+}
+
+/// The text up to its last line.
+fn write_body(alloc: Global, deal: &Deal, secrets: &Secrets) -> Result<Bytes, AllocError>
+    ensures { IfOk result (λ text. text ≡ body_text (secret_of deal.now secrets.now)) }
 {
     let mut text = Bytes::from_slice(alloc, b"viaduct-deal 2")?;
     push_front(&mut text, deal, secrets)?;
