@@ -61,10 +61,11 @@ DEAL = "deal 2 4 2 0 0"
 COUNTED = (2, 4, 2, 0, 0)
 row("deal, by a key that is drawn", DEAL + " draw v", extra=[draw(KEY)], calls=stored("v", deal_texts(KEY, COUNTED)) + ["draw"])
 row("deal, by another key that is drawn", "deal 3 1 1 1 1 draw v", extra=[draw(DRAWN)], calls=stored("v", deal_texts(DRAWN, (3, 1, 1, 1, 1))) + ["draw"])
-WRITTEN = "0123456789abcdefghijklmnopqrstuv"
+WRITTEN = "0123456789abcdefghijklmnopqrst\u00e9"
 row("deal, by the key of a file", DEAL + " @K v", files=[("K", WRITTEN)], calls=["fetch K"] + stored("v", deal_texts(WRITTEN.encode(), COUNTED)))
 row("deal, a draw that fails", DEAL + " draw v", extra=[draw(KEY), "fail marks 0"], status=3, err="read fault draw", calls=["draw"])
-row("deal, a key of 31 bytes", DEAL + " @K v", files=[("K", WRITTEN[:31])], status=34, err="short key K 31", calls=["fetch K"])
+row("deal, a key of 31 bytes", DEAL + " @K v", files=[("K", WRITTEN[:30] + "u")], status=34, err="short key K 31", calls=["fetch K"])
+row("deal, a key that is a text", DEAL + " @K v", files=[("K", WRITTEN[:30] + "uv")], status=34, err="short key K 32", calls=["fetch K"])
 row("deal, a key of no bytes", DEAL + " @K v", files=[("K", "")], status=34, err="short key K 0", calls=["fetch K"])
 row("deal, a key of 33 bytes", DEAL + " @K v", files=[("K", WRITTEN + "w")], status=5, err="too long K 32", calls=["fetch K"])
 row("deal, no file of a key", DEAL + " @K v", status=3, err="read fault K", calls=["fetch K"])

@@ -1,5 +1,6 @@
 -- The command `deal` for a key that is drawn, and for one that a file has.
-use Rattle.std.specs.Prelude.{◌≡◌, ◌≤◌, ℕ, true, IsTrue, List, ◌∷◌, length, codes, Result, Ok, Err, nat_lt, if◌then◌else◌}
+use Rattle.std.specs.Prelude.{◌≡◌, ◌≤◌, ℕ, ◌&&◌, ◌||◌, Bool, true, IsTrue, List, ◌∷◌, length, codes, Result, Ok, Err, nat_le, nat_lt, if◌then◌else◌}
+use Rattle.std.specs.List.{list_all}
 use Rattle.vd_base.specs.declared.faults.CallFault.{CallFault}
 use Rattle.vd_base.specs.declared.faults.CallFault.TheVariants as call_fault
 use Rattle.vd_outside.specs.Files.{Contents, FilesView}
@@ -15,9 +16,17 @@ use Rattle.vd_cmd_plan.specs.declared.status.Status.{Status}
 use Rattle.vd_cmd_plan.specs.declared.status.Status.TheVariants.{Ended, Memory, ReadFault, ShortKey}
 use Rattle.vd_cmd_deal.specs.KeyDealing.{key_answer}
 
--- a key has 32 bytes
+-- a byte of a printed text: a letter, a digit, a sign, a blank or an end of a line
+abbrev pub is_printed : ℕ → Bool
+is_printed b = (nat_le 32 b && nat_lt b 127) || (nat_le 9 b && nat_lt b 14)
+
+-- the bytes are a text, as somebody writes one, and not random
+abbrev pub is_written : List ℕ → Bool
+is_written bytes = list_all is_printed bytes
+
+-- a key has 32 bytes, and is no text
 abbrev pub key_in : (name bytes : List ℕ) → Result (List ℕ) Status
-key_in name bytes = if nat_lt (length bytes) 32 then Err (ShortKey name (length bytes)) else Ok bytes
+key_in name bytes = if nat_lt (length bytes) 32 || is_written bytes then Err (ShortKey name (length bytes)) else Ok bytes
 
 -- A key that a file has is its bytes, all 32 of them. At most so many are read.
 abbrev pub KeysAreWhole : Type 0

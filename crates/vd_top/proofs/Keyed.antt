@@ -1,6 +1,6 @@
 -- What a run of `deal` for a key of 32 bytes has shown, where it ended well.
 use Rattle.std.proofs.Common.{◌≡◌, ℕ, Bool, true, false, IsTrue, List, length, Option, Result, Ok, Err, sym, ap, subst, ◌∙◌, if◌then◌else◌}
-use Rattle.std.specs.Prelude.{codes, nat_lt}
+use Rattle.std.specs.Prelude.{codes, nat_lt, ◌||◌}
 use Rattle.vd_base.specs.declared.faults.CallFault.{CallFault}
 use Rattle.vd_base.specs.declared.faults.CallFault.TheVariants as call_fault
 use Rattle.vd_outside.specs.Files.{Contents, FilesView}
@@ -17,7 +17,7 @@ use Rattle.vd_cmd_plan.specs.declared.answer.Answer.{Answer}
 use Rattle.vd_cmd_plan.specs.declared.status.Status.{Status}
 use Rattle.vd_cmd_plan.specs.declared.status.Status.TheVariants.{Ended, Memory, ShortKey}
 use Rattle.vd_cmd_deal.specs.KeyDealing.{key_answer}
-use Rattle.vd_cmd_deal.specs.Sources.{FromDraw, FromFile, NoMemory, NotDrawn, RunsKeyDeal, bytes_plan, file_plan, key_in, not_drawn}
+use Rattle.vd_cmd_deal.specs.Sources.{FromDraw, FromFile, NoMemory, NotDrawn, RunsKeyDeal, bytes_plan, file_plan, is_written, key_in, not_drawn}
 use Rattle.vd_cmd_laws.proofs.Front.{answered, check_came, ends_as, file_came}
 use Rattle.vd_cmd_laws.specs.KeyedDealt.{TellsKeyed}
 use Rattle.vd_cmd_laws.proofs.Front.{keyed_deals_tell}
@@ -34,7 +34,7 @@ no_short name bytes true status refused ends = cc (refused, ends)
 no_short name bytes false status refused ends = cc refused
 
 no_short_key : (name bytes : List ℕ) (status : Status) → key_in name bytes ≡ Err status → status ≡ Ended → ⊥
-no_short_key name bytes status refused ends = no_short name bytes (nat_lt (length bytes) 32) status refused ends
+no_short_key name bytes status refused ends = no_short name bytes (nat_lt (length bytes) 32 || is_written bytes) status refused ends
 
 never_drawn : (draw : List ℕ) (fault : CallFault) → not_drawn draw fault ≡ Ended → ⊥
 never_drawn draw call_fault.Failed e = cc e

@@ -4,7 +4,7 @@ ghost use Rattle.std.specs.Prelude.{◌≡◌, ◌<◌, ◌≤◌, true, length}
 ghost use Rattle.vd_outside.specs.Files.{FilesView};
 ghost use Rattle.vd_cmd_plan.specs.Plans.{Checks, Executes};
 ghost use Rattle.vd_cmd.specs.Commands.{AreWithin};
-ghost use Rattle.vd_cmd_deal.specs.Sources.{RunsKeyDeal, bytes_plan, file_plan, key_in, not_drawn};
+ghost use Rattle.vd_cmd_deal.specs.Sources.{RunsKeyDeal, bytes_plan, file_plan, is_printed, is_written, key_in, not_drawn};
 
 use crate::cmd_deal_keyed::key_command::deal_by_key;
 use std::alloc::Global;
@@ -17,12 +17,26 @@ use vd_tape::Counts;
 /// As many bytes as a key has.
 const KEY_BYTES: u32 = 32;
 
-/// The key that the bytes of a file are.
+/// Whether a byte is one of a printed text: a letter, a digit, a sign, a blank or an end of a line.
+fn is_printed(byte: u8) -> bool
+    ensures { result ≡ is_printed byte }
+{
+    (32 <= byte && byte < 127) || (9 <= byte && byte < 14)
+}
+
+/// Whether bytes are a text, as somebody writes one: such are guessed, and not random.
+fn is_written(bytes: &[u8]) -> bool
+    ensures { result ≡ is_written bytes.now }
+{
+    bytes.iter().all(|byte| is_printed(*byte))
+}
+
+/// The key that the bytes of a file are. It is none where they are too few, or a text.
 fn key_in(alloc: Global, name: &str, bytes: &[u8]) -> Result<[u8; 32], Status>
     requires { length bytes.now ≤ 32 }
     ensures { Checks (key_in name.now bytes.now) result }
 {
-    if bytes.len() < KEY_BYTES as usize {
+    if bytes.len() < KEY_BYTES as usize || is_written(bytes) {
         let file = Text::copy_of(alloc, name)?;
         return Err(Status::ShortKey(file, bytes.len() as u32));
     }
