@@ -1,4 +1,4 @@
-ghost use Rattle.std.specs.Prelude.{◌≡◌, ◌≢◌, ◌⊎◌, ℕ, List, IsTrue, ⊥, IfOk, IfErr, OnOk, OnErr, None, Some, false, string_bytes};
+ghost use Rattle.std.specs.Prelude.{◌≡◌, ◌≢◌, ◌⊎◌, ℕ, List, IsTrue, IfOk, IfErr, OnOk, OnErr, None, Some, false, string_bytes};
 ghost use Rattle.std.specs.Str.{bytes_eq};
 ghost use Rattle.std_io.specs.IoError.{error_kind};
 ghost use Rattle.vd_edge.specs.Store.{IsBeside, IsRefused, MayLeave, Same, SameElse, is_deal};
