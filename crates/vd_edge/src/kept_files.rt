@@ -2,7 +2,7 @@ ghost use Rattle.std.specs.Prelude.{◌≡◌, ◌≤◌, ℕ, [], false, Some, 
 ghost use Rattle.vd_edge.specs.KeptFiles.{AreFailed, AreFaults, AreHeldOf, AreTried, IsHeldOf, IsReadAhead, NotesUnread, StandAlone, StandWhole, StillTried, after_stores, are_held_at, as_read, content, is_tried, is_unanswered, is_unknown, kept_view, stood, stores_at, were_asked};
 ghost use Rattle.std.proofs.Props.{props};
 ghost use Rattle.vd_outside.specs.Causes.{Rose};
-ghost use Rattle.vd_edge.specs.Store.{MayLeave, SameElse};
+ghost use Rattle.vd_edge.specs.Store.{IsRefused, MayLeave, SameElse, is_deal};
 ghost use Rattle.vd_outside.specs.Files.{Fetches, Stores as StoresAt, fetched};
 ghost use Rattle.vd_outside.specs.declared.faults.FetchFault.TheVariants as fetch_fault;
 
@@ -313,6 +313,8 @@ impl<D: Directory + Drop> Files for KeptFiles<D> {
             MayLeave name.now (D.holds self.old.files.directory) (D.holds self.new.files.directory) }
         ensures others { OnOk result (IsTrue D.tells →
             SameElse name.now (D.holds self.old.files.directory) (D.holds self.new.files.directory)) }
+        ensures refused { IsTrue D.tells → IsTrue (is_deal bytes.now) → D.replaces self.old.files.directory name.now ≡ false →
+            IsRefused result (D.holds self.old.files.directory) (D.holds self.new.files.directory) }
     {
         let call = FilesCall::Store(Text::copy_of(self.alloc, name)?);
         let before = self.asked.as_slice().len();

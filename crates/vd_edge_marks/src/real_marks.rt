@@ -110,12 +110,12 @@ fn place_of(alloc: Global, beside: &str, name: &[u8]) -> io::Result<String>
 }
 
 /// The name of the file of a mark in the user's folder for all marks, where there is one.
-fn far_of(alloc: Global, home: Option<&str>, name: &[u8]) -> io::Result<Option<String>>
-    ensures { IfOk result (λ far. option_map string_bytes far ≡ far_of home name.now) }
+fn far_of(alloc: Global, home: &Option<String>, name: &[u8]) -> io::Result<Option<String>>
+    ensures { IfOk result (λ far. option_map string_bytes far ≡ far_of (option_map string_bytes home.now) name.now) }
 {
     match home {
         None => Ok(None),
-        Some(home) => Ok(Some(place_of(alloc, home, name)?)),
+        Some(home) => Ok(Some(place_of(alloc, home.as_str(), name)?)),
     }
 }
 
@@ -123,12 +123,12 @@ fn far_of(alloc: Global, home: Option<&str>, name: &[u8]) -> io::Result<Option<S
 fn claim_files<D: Directory>(
     directory: &mut D,
     alloc: Global,
-    home: Option<&str>,
+    home: &Option<String>,
     beside: &str,
     name: &[u8],
     bytes: &[u8],
 ) -> io::Result<bool>
-    ensures claims { IsTrue D.tells → ClaimsFiles (far_of home name.now) (mark_at beside.now name.now) bytes.now
+    ensures claims { IsTrue D.tells → ClaimsFiles (far_of (option_map string_bytes home.now) name.now) (mark_at beside.now name.now) bytes.now
         (D.holds directory.old) (D.holds directory.new) result }
     ensures settled { IfOk result (λ new. IsTrue new → D.settles directory.new (mark_at beside.now name.now)) }
 {
@@ -143,11 +143,11 @@ fn claim_files<D: Directory>(
 fn release_files<D: Directory>(
     directory: &mut D,
     alloc: Global,
-    home: Option<&str>,
+    home: &Option<String>,
     beside: &str,
     name: &[u8],
 ) -> io::Result<()>
-    ensures { IsTrue D.tells → ReleasesFiles (far_of home name.now) (mark_at beside.now name.now)
+    ensures { IsTrue D.tells → ReleasesFiles (far_of (option_map string_bytes home.now) name.now) (mark_at beside.now name.now)
         (D.holds directory.old) (D.holds directory.new) result }
 {
     let near = place_of(alloc, beside, name)?;
@@ -186,8 +186,14 @@ impl<D: Directory + Drop, R: Randomness + Drop> Marks for RealMarks<D, R> {
         ensures settled { IfOk result (λ new. IsTrue new → D.settles self.new.directory (mark_at beside.now name.now)) }
         ensures home { self.new.home ≡ self.old.home }
     {
-        let home = self.home.as_deref();
-        match claim_files(&mut self.directory, self.alloc, home, beside, name, bytes) {
+        match claim_files(
+            &mut self.directory,
+            self.alloc,
+            &self.home,
+            beside,
+            name,
+            bytes,
+        ) {
             Ok(new) => Ok(new),
             Err(error) => {
                 self.reason = reason_of(self.alloc, "mark", beside, &error);
@@ -204,8 +210,7 @@ impl<D: Directory + Drop, R: Randomness + Drop> Marks for RealMarks<D, R> {
             (mark_at beside.now name.now) (D.holds self.old.directory) (D.holds self.new.directory) result }
         ensures home { self.new.home ≡ self.old.home }
     {
-        let home = self.home.as_deref();
-        match release_files(&mut self.directory, self.alloc, home, beside, name) {
+        match release_files(&mut self.directory, self.alloc, &self.home, beside, name) {
             Ok(()) => Ok(()),
             Err(error) => {
                 self.reason = reason_of(self.alloc, "unmark", beside, &error);

@@ -61,9 +61,15 @@ fn parent(rt: &HostRuntime) -> Option<u32> {
 /// The folder that a variable names, where it is set to one by its whole name.
 fn folder_in(rt: &HostRuntime, variable: &str) -> Result<Option<String>, AllocError> {
     match env::var(rt, variable) {
-        Ok(folder) if folder.as_str().starts_with('/') => Ok(Some(folder)),
+        Ok(folder) => {
+            if folder.as_str().starts_with('/') {
+                Ok(Some(folder))
+            } else {
+                Ok(None)
+            }
+        }
         Err(VarError::OutOfMemory) => Err(AllocError),
-        _ => Ok(None),
+        Err(_) => Ok(None),
     }
 }
 
