@@ -1,6 +1,7 @@
 -- What marks over a directory tell, and what stands in the directory.
 use Rattle.std.specs.Prelude.{◌≡◌, ◌≢◌, ℕ, Bool, true, false, IsTrue, List, [], Option, None, Some, Result, Ok, IfOk, IfSome, OnErr, OnOk}
 use Rattle.std.specs.Str.{bytes_eq}
+use Rattle.vd_base.specs.declared.faults.CallFault.{CallFault}
 use Rattle.vd_outside.specs.Files.{Contents}
 use Rattle.vd_outside.specs.Marks.{MarksView, Stays}
 use Rattle.vd_outside.specs.Places.{mark_at}
@@ -20,8 +21,8 @@ IsFree holds place = holds place ≡ None
 
 -- What stands at both places stays where it stood, and all stands as it stood elsewhere.
 pub record StayBoth (far : Option (List ℕ)) (near : List ℕ) (before now : Contents) : Type 0 where
-  pub near : before near ≢ None → now near ≡ before near
-  pub far : IfSome far (λ place. before place ≢ None → now place ≡ before place)
+  pub kept_near : before near ≢ None → now near ≡ before near
+  pub kept_far : IfSome far (λ place. before place ≢ None → now place ≡ before place)
   pub others : (other : List ℕ) → bytes_eq near other ≡ false → IfSome far (λ place. bytes_eq place other ≡ false) → now other ≡ before other
 
 -- The mark is new where nothing stood at either place, and now these bytes stand at both. It is not where something stood at one of them.
@@ -39,7 +40,7 @@ pub record ReleasesFiles {T E : Type 0} (far : Option (List ℕ)) (near : List �
 -- Of two claims of one name for one user only the first is new, in whatever folders the files are, as long as what the first made in the folder
 -- for all marks stands.
 abbrev pub NoCopyServesTwice : Type 0
-NoCopyServesTwice = {E : Type 0} (home name : List ℕ) (beside again bytes text : List ℕ) (before between later now : Contents)
-    → ClaimsFiles {E} (far_of (Some home) name) (mark_at beside name) bytes before between (Ok true)
+NoCopyServesTwice = (home name : List ℕ) (beside again bytes text : List ℕ) (before between later now : Contents)
+    → ClaimsFiles {E = CallFault} (far_of (Some home) name) (mark_at beside name) bytes before between (Ok true)
     → later (mark_at home name) ≡ between (mark_at home name)
-    → ClaimsFiles {E} (far_of (Some home) name) (mark_at again name) text later now (Ok true) → ⊥
+    → ClaimsFiles {E = CallFault} (far_of (Some home) name) (mark_at again name) text later now (Ok true) → ⊥

@@ -1,6 +1,6 @@
 //! Marks as files of a directory.
 
-ghost use Rattle.std.specs.Prelude.{◌≡◌, ◌≢◌, IsTrue, List, None, ℕ, OnErr, OnOk, Some, false, IfOk, option_map, string_bytes};
+ghost use Rattle.std.specs.Prelude.{◌≡◌, IsTrue, None, OnErr, Some, false, IfOk, option_map, string_bytes};
 ghost use Rattle.vd_edge.specs.Store.{Same, SameElse};
 ghost use Rattle.vd_outside.specs.Marks.{Claims, Draws, Releases, Stays};
 ghost use Rattle.vd_outside.specs.Places.{mark_at};
