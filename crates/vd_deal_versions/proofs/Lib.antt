@@ -6,6 +6,6 @@ mod LinksWritten
 mod Outcomes
 mod PlainExact
 mod SecretExact
-mod Sums
+mod LastLine
 mod Versions
 mod Begins

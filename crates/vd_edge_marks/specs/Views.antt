@@ -3,7 +3,7 @@ use Rattle.std.specs.Prelude.{◌≡◌, ◌≢◌, ℕ, Bool, true, false, IsTr
 use Rattle.std.specs.Str.{bytes_eq}
 use Rattle.vd_base.specs.declared.faults.CallFault.{CallFault}
 use Rattle.vd_outside.specs.Files.{Contents}
-use Rattle.vd_outside.specs.Marks.{MarksView, Stays}
+use Rattle.vd_outside.specs.Marks.{MarksView}
 use Rattle.vd_outside.specs.Places.{mark_at}
 
 -- how often they have failed; what stands in the directory is not told

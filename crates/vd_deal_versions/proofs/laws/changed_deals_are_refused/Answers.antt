@@ -1,4 +1,4 @@
-use Rattle.vd_deal_versions.proofs.Sums.{changed_are_refused}
+use Rattle.vd_deal_versions.proofs.LastLine.{changed_are_refused}
 use Rattle.vd_deal_versions.proofs.laws.changed_deals_are_refused.Goals as goal
 
 pub returns : goal.returns
