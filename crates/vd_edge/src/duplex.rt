@@ -1,4 +1,4 @@
-ghost use Rattle.std.specs.Prelude.{false, []};
+ghost use Rattle.std.specs.Prelude.{◌≡◌, ◌≤◌, IfOk, false, [], length};
 ghost use Rattle.vd_edge.specs.Duplex.{DuplexView, Gives, Takes};
 
 use crate::Waits;
@@ -47,12 +47,44 @@ fn is_early(error: &io::Error) -> bool {
     matches!(error.kind(), ErrorKind::WouldBlock | ErrorKind::TimedOut)
 }
 
+/// Whether a call was interrupted, as where the process was stopped and goes on: it is made again.
+fn is_interrupted(error: &io::Error) -> bool {
+    error.kind() == ErrorKind::Interrupted
+}
+
+/// Writes a prefix of a piece, and says how much. A call that was interrupted is made again, so it is no turn of a wait.
+fn write_on<S: Write>(stream: &mut S, bytes: &[u8]) -> io::Result<usize>
+    ensures { IfOk result (λ count. count ≤ length bytes.now) }
+{
+    for _ in 0..u64::MAX {
+        match stream.write(bytes) {
+            Err(error) if is_interrupted(&error) => {}
+            ended => return ended,
+        }
+    }
+    Err(silent())
+}
+
+/// Reads the next bytes, and says how many. A call that was interrupted is made again, so it is no turn of a wait.
+fn read_on<S: Read>(stream: &mut S, into: &mut [u8]) -> io::Result<usize>
+    ensures count { IfOk result (λ count. count ≤ length into.new) }
+    ensures same { length into.new ≡ length into.old }
+{
+    for _ in 0..u64::MAX {
+        match stream.read(into) {
+            Err(error) if is_interrupted(&error) => {}
+            ended => return ended,
+        }
+    }
+    Err(silent())
+}
+
 impl<S: Read + Write + Drop> Duplex for SystemStream<S> {
     ghost view = { λ stream. record { told = false; sent = []; coming = [] } };
 
     fn take(&mut self, bytes: &[u8]) -> io::Result<usize> {
         for _ in 0..self.waits.turns() {
-            match self.stream.write(bytes) {
+            match write_on(&mut self.stream, bytes) {
                 Ok(count) => return Ok(count),
                 Err(error) if is_early(&error) => self.waits.go_on()?,
                 Err(error) => return Err(error),
@@ -63,7 +95,7 @@ impl<S: Read + Write + Drop> Duplex for SystemStream<S> {
 
     fn give(&mut self, into: &mut [u8]) -> io::Result<usize> {
         for _ in 0..self.waits.turns() {
-            match self.stream.read(into) {
+            match read_on(&mut self.stream, into) {
                 Ok(count) => return Ok(count),
                 Err(error) if is_early(&error) => self.waits.go_on()?,
                 Err(error) => return Err(error),
