@@ -17,3 +17,5 @@ mod Happening
 mod Sealed
 mod Tried
 mod FaultsTell
+mod Waiting
+mod Turns

@@ -10,3 +10,4 @@ pub mod Outgoing
 pub mod Seals
 pub mod Views
 pub mod Waits
+pub mod Courses

@@ -1,5 +1,5 @@
 -- What a host seals its links by.
-use Rattle.std.specs.Prelude.{◌≡◌, ◌<◌, ◌≤◌, ℕ, ◌+◌, ◌-◌, min, List, Option, Some, None, slice_get, if◌then◌else◌, nat_lt}
+use Rattle.std.specs.Prelude.{◌≡◌, ◌<◌, ◌≤◌, ℕ, ◌+◌, ◌-◌, min, IsTrue, List, Option, Some, None, slice_get, if◌then◌else◌, nat_lt}
 use Rattle.std.specs.Option.{unwrap_or}
 use Rattle.vd_base.specs.declared.ids.HostId.{HostId}
 use Rattle.vd_outside.specs.Link.{LinkView}
@@ -9,7 +9,9 @@ use Rattle.vd_channel_link.specs.Session.{IsFresh}
 use Rattle.vd_channel_link.specs.declared.session.Session.{Session}
 use Rattle.vd_channel_crypto.specs.declared.deal_keys.secrets.LinkKey.{LinkKey}
 use Rattle.vd_channel_crypto.specs.declared.deal_keys.secrets.Secrets.{Secrets}
-use Rattle.vd_channel_link.specs.Meeting.{HaveMet}
+use Rattle.vd_channel_crypto.specs.declared.records.Keys.{Keys}
+use Rattle.vd_channel_link.specs.Meeting.{HasAnswered, HaveMet, IsCounted, IsStranger}
+use Rattle.vd_channel_link.specs.declared.fault.SealFault.{SealFault}
 use Rattle.vd_channel_link.specs.declared.channel_net.seal.Seal.{Seal}
 
 -- by these, and nothing was tried so far
@@ -69,6 +71,33 @@ pub record IsMet (seal : Seal) (tried peer : ℕ) (session : Session) (came give
   pub is_key : IsKeyFor seal.me.0 seal.secrets peer key
   pub met : HaveMet mine key came given (session.ours, session.theirs)
   pub fresh : IsFresh session
+
+-- A peer that was answered, as it is with one that is met: its proof is still to come.
+pub record IsAnswered (seal : Seal) (tried peer : ℕ) (keys : Keys × Keys) (came now : LinkView) : Type 0 where
+  pub mine : Hello
+  pub id : mine.id ≡ seal.secrets.id
+  pub from : mine.from ≡ seal.me
+  pub to : mine.to.0 ≡ peer
+  pub connection : ℕ
+  pub is_new : seal.tried ≤ connection
+  pub is_counted : connection < tried
+  pub nonce : mine.nonce ≡ nonce_of seal.seed peer connection
+  pub key : List ℕ
+  pub is_key : IsKeyFor seal.me.0 seal.secrets peer key
+  pub theirs : Hello
+  pub answered : HasAnswered mine theirs key came now keys
+
+-- A host that came and is hung up for this reason. Where its link tells its bytes, it was a stranger to a hello to this peer, by the key of the link to it;
+-- and where the link failed, that was counted.
+pub record IsTurnedAway (seal : Seal) (peer : ℕ) (came left : LinkView) (why : SealFault) : Type 0 where
+  pub mine : Hello
+  pub id : mine.id ≡ seal.secrets.id
+  pub from : mine.from ≡ seal.me
+  pub to : mine.to.0 ≡ peer
+  pub key : List ℕ
+  pub is_key : IsKeyFor seal.me.0 seal.secrets peer key
+  pub counted : IsCounted why left
+  pub stranger : IsTrue left.told → IsStranger mine key came left why
 
 -- a net that sealed by one seal met a peer, and seals by the other now
 abbrev pub IsMetBy : (peer : Seal → ℕ) → (before now : Option Seal) → Session → (given : LinkView) → Type 0

@@ -1,6 +1,8 @@
 //! A net whose links are sealed: it owns another net, and once it is told what to seal by it gives only links to hosts that proved
 //! that they have the link's key.
 
+mod accepting;
+mod answered;
 mod laws;
 mod ledger;
 mod run_link;

@@ -12,7 +12,7 @@ mod sealed_link;
 mod session;
 mod taking;
 
-pub use channel_handshake::{ends_have_the_same_keys, hello_faults_tell, honest_ends_meet, meet};
+pub use channel_handshake::{ends_have_the_same_keys, hello_faults_tell, honest_ends_meet};
 pub use channel_net::{
     Ledger, RunLink, RunNet, Seal, SealedNet, SealedRun, unsent_links_greet_alone,
 };

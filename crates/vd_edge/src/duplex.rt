@@ -5,7 +5,7 @@ use crate::Waits;
 use crate::waits::silent;
 use std::io::{self, ErrorKind, Read, Write};
 use std::net::OpenStream;
-use std::time::Duration;
+use std::time::{Duration, Instant};
 
 /// A stream of bytes in each direction, such as a socket.
 pub trait Duplex {
@@ -26,29 +26,46 @@ pub trait Duplex {
 pub struct SystemStream<S: Read + Write + Drop> {
     stream: S,
     waits: Waits,
+    /// When it came, or was made.
+    made: Instant,
 }
 
 impl<S: Read + Write + OpenStream + Drop> SystemStream<S> {
     /// This socket, which sends its pieces at once; one that cannot is as good. Where waits may end, its calls come back each
     /// second.
-    pub fn new(stream: S, waits: Waits) -> io::Result<SystemStream<S>> {
+    pub fn new(stream: S, waits: Waits, made: Instant) -> io::Result<SystemStream<S>> {
+        stream.set_nonblocking(false)?;
         let _ = stream.set_nodelay(true);
         if waits.may_end() {
             let second = Some(Duration::from_secs(1));
             stream.set_read_timeout(second)?;
             stream.set_write_timeout(second)?;
         }
-        Ok(SystemStream { stream, waits })
+        Ok(SystemStream {
+            stream,
+            waits,
+            made,
+        })
+    }
+
+    /// The socket.
+    pub(crate) fn stream(&self) -> &S {
+        &self.stream
+    }
+
+    /// When it came, or was made.
+    pub(crate) fn made(&self) -> Instant {
+        self.made
     }
 }
 
 /// Whether a call came back because its time was over.
-fn is_early(error: &io::Error) -> bool {
+pub(crate) fn is_early(error: &io::Error) -> bool {
     matches!(error.kind(), ErrorKind::WouldBlock | ErrorKind::TimedOut)
 }
 
 /// Whether a call was interrupted, as where the process was stopped and goes on: it is made again.
-fn is_interrupted(error: &io::Error) -> bool {
+pub(crate) fn is_interrupted(error: &io::Error) -> bool {
     error.kind() == ErrorKind::Interrupted
 }
 

@@ -1,8 +1,9 @@
-ghost use Rattle.std.specs.Prelude.{◌≡◌, IsTrue, [], false};
+ghost use Rattle.std.specs.Prelude.{◌≡◌, IsTrue, [], false, true};
 ghost use Rattle.vd_edge.specs.Duplex.{link_view};
 
 use crate::Duplex;
 use crate::meter::Meter;
+use crate::waits::silent;
 use std::io::Error;
 use vd_base::Failed;
 use vd_outside::Link;
@@ -15,6 +16,8 @@ const PIECE: usize = 65_536;
 pub struct RealLink<S: Duplex + Drop> {
     stream: S,
     ended: bool,
+    /// Whether nothing is received any more, since the peer was silent for too long.
+    late: bool,
     faults: u64,
     last: Option<Error>,
     sent: Meter,
@@ -34,6 +37,7 @@ impl<S: Duplex + Drop> RealLink<S> {
         RealLink {
             stream,
             ended: false,
+            late: false,
             faults: 0,
             last: None,
             sent: Meter::new(),
@@ -44,6 +48,23 @@ impl<S: Duplex + Drop> RealLink<S> {
     /// Why the last call failed, where one did and the system says it.
     pub fn last(&self) -> Option<Error> {
         self.last
+    }
+
+    /// The stream.
+    pub(crate) fn stream(&self) -> &S
+        ensures { result.now ≡ self.now.stream }
+    {
+        &self.stream
+    }
+
+    /// Receives nothing any more: the peer was silent for too long.
+    pub(crate) fn give_up(&mut self)
+        ensures stream { self.new.stream ≡ self.old.stream }
+        ensures ended { self.new.ended ≡ self.old.ended }
+        ensures faults { self.new.faults ≡ self.old.faults }
+        ensures late { self.new.late ≡ true }
+    {
+        self.late = true;
     }
 
     /// How many packets went out, and how many came, each of them whole.
@@ -86,6 +107,11 @@ impl<S: Duplex + Drop> Link for RealLink<S> {
     fn receive(&mut self, into: &mut [u8]) -> Result<u32, Failed> {
         if self.ended {
             return Ok(0);
+        }
+        if self.late {
+            self.last = Some(silent());
+            self.faults = self.faults.saturating_add(1);
+            return Err(Failed);
         }
         let most = into.len().min(PIECE);
         match self.stream.give(&mut into[..most]) {

@@ -1,8 +1,8 @@
-ghost use Rattle.std.specs.Prelude.{◌≡◌, ◌<◌, ◌++◌, ◌∷◌, [], IfOk, OnOk, Some, slice_get, vec_len};
+ghost use Rattle.std.specs.Prelude.{◌≡◌, ◌<◌, ◌++◌, ◌∷◌, [], IfOk, IfSome, OnOk, Some, option_map, slice_get, vec_len};
 ghost use Rattle.std.specs.Result.{result_map_both};
 ghost use Rattle.vd_edge.specs.Duplex.{link_view};
 ghost use Rattle.vd_edge.specs.Net.{net_view};
-ghost use Rattle.vd_outside.specs.Net.{Accepts, Connects, Listens};
+ghost use Rattle.vd_outside.specs.Net.{Accepts, Connects, Listens, Looks};
 
 use crate::edge_errors::{count_fault, fault_of};
 use crate::peer_reason::{peer_reason, with_cause};
@@ -68,6 +68,9 @@ impl<N: Sockets + Drop> Net for RealNet<N> {
 
     ghost greets = { λ link greeting. N.greets link.stream greeting };
 
+    // Nothing is received any more over a link whose peer was silent for too long.
+    ghost at_hand = { λ link count. link.late ≡ false → N.at_hand link.stream count };
+
     fn faults(&self) -> u64 {
         self.faults
     }
@@ -109,10 +112,8 @@ impl<N: Sockets + Drop> Net for RealNet<N> {
             IfOk result (λ link. N.came_to link.stream asked) }
         ensures greets { IfOk result (λ link. N.greets link.stream greeting.now) }
     {
-        match self
-            .sockets
-            .accept(&self.listeners[listener as usize], greeting)
-        {
+        let place = &mut self.listeners[listener as usize];
+        match self.sockets.accept(place, greeting) {
             Ok(stream) => Ok(RealLink::new(stream)),
             Err(error) => {
                 self.reason = self.failed(PeerCall::Accept, None, &error);
@@ -120,6 +121,50 @@ impl<N: Sockets + Drop> Net for RealNet<N> {
                 count_fault(&mut self.faults, fault);
                 Err(fault)
             }
+        }
+    }
+
+    fn next_comer(
+        &mut self,
+        listener: u32,
+        front: &[u8],
+        count: u32,
+    ) -> Result<Option<RealLink<N::Stream>>, CallFault>
+        requires { listener < vec_len self.old.listeners }
+        ensures looks { Looks listener (net_view (vec_len self.old.listeners) (N.limit self.old.sockets) self.old.faults)
+            (net_view (vec_len self.new.listeners) (N.limit self.new.sockets) self.new.faults)
+            (result_map_both (option_map (λ link. link_view (N.Stream.view link.stream) link.ended link.faults)) (λ fault. fault) result) }
+        ensures came { (asked : N.Listener) → slice_get self.old.listeners.items listener ≡ Some asked →
+            IfOk result (λ found. IfSome found (λ link. N.came_to link.stream asked)) }
+        ensures at_hand { IfOk result (λ found. IfSome found (λ link. link.late ≡ false → N.at_hand link.stream count)) }
+    {
+        let place = &mut self.listeners[listener as usize];
+        match self.sockets.next_comer(place, front, count) {
+            Ok(Some(stream)) => Ok(Some(RealLink::new(stream))),
+            Ok(None) => Ok(None),
+            Err(error) => {
+                self.reason = self.failed(PeerCall::Accept, None, &error);
+                let fault = fault_of(&error);
+                count_fault(&mut self.faults, fault);
+                Err(fault)
+            }
+        }
+    }
+
+    fn has_come(&mut self, link: &mut RealLink<N::Stream>, count: u32) -> bool {
+        match self.sockets.has_come(link.stream(), count) {
+            Some(true) => true,
+            Some(false) => {
+                link.give_up();
+                true
+            }
+            None => false,
+        }
+    }
+
+    fn await_bytes(&mut self, link: &mut RealLink<N::Stream>, count: u32) {
+        if !self.sockets.await_bytes(link.stream(), count) {
+            link.give_up();
         }
     }
 

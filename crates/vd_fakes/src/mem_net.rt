@@ -1,5 +1,6 @@
-ghost use Rattle.std.specs.Prelude.{◌≡◌, ◌<◌, ⊤, [], ◌∷◌, ◌++◌, length, slice_get, Some, IfOk, OnOk, OnErr};
-ghost use Rattle.vd_outside.specs.Net.{Accepts, Connects, HangsUp, Listens};
+ghost use Rattle.std.specs.Prelude.{◌≡◌, ◌<◌, ⊤, [], ◌∷◌, ◌++◌, length, option_map, slice_get, Some, IfOk, OnOk, OnErr};
+ghost use Rattle.std.specs.Result.{result_map_both};
+ghost use Rattle.vd_outside.specs.Net.{Accepts, Connects, HangsUp, Listens, Looks};
 ghost use Rattle.vd_outside.specs.declared.net.NetCall.TheVariants.{Connect};
 ghost use Rattle.vd_fakes.specs.MemLink.{limited_link_view};
 ghost use Rattle.vd_fakes.specs.MemNet.{AcceptsNext, Gives, GivesNext, ListensNext, after_hang_up, listed_net_view, no_links, told_link};
@@ -127,6 +128,8 @@ impl Net for MemNet {
 
     ghost greets = { λ link greeting. ⊤ };
 
+    ghost at_hand = { λ link count. ⊤ };
+
     fn faults(&self) -> u64 {
         self.failures.faults
     }
@@ -169,6 +172,29 @@ impl Net for MemNet {
         let address = self.address_of(listener)?;
         self.give(address.as_str(), NetCall::Accept(listener), fails)
     }
+
+    // All that will come over a link is there from the first.
+    fn next_comer(
+        &mut self,
+        listener: u32,
+        front: &[u8],
+        _count: u32,
+    ) -> Result<Option<MemLink>, CallFault>
+        requires { listener < (listed_net_view self.old).given }
+        ensures looks { Looks listener (listed_net_view self.old) (listed_net_view self.new)
+            (result_map_both (option_map limited_link_view) (λ fault. fault) result) }
+    {
+        match self.accept(listener, front) {
+            Ok(link) => Ok(Some(link)),
+            Err(fault) => Err(fault),
+        }
+    }
+
+    fn has_come(&mut self, _link: &mut MemLink, _count: u32) -> bool {
+        true
+    }
+
+    fn await_bytes(&mut self, _link: &mut MemLink, _count: u32) {}
 
     fn connect(&mut self, address: &str) -> Result<MemLink, CallFault>
         ensures connect { Connects address.now (listed_net_view self.old) (listed_net_view self.new) (told_link result) }

@@ -2,7 +2,6 @@
 
 ghost use Rattle.std.specs.Prelude.{◌≡◌, ◌<◌, ◌+◌, IfSome, IfNone};
 ghost use Rattle.vd_channel_crypto.specs.Hellos.{nonce_of};
-ghost use Rattle.vd_channel_link.specs.Meeting.{head_of};
 ghost use Rattle.vd_channel_link.specs.Seals.{IsKeyFor, IsKeyless, Tries, awaited_at, first_of, next_asked, sealed_by};
 
 use vd_base::HostId;
@@ -21,19 +20,6 @@ pub struct Seal {
     tried: u32,
     /// How many links to earlier hosts were asked for.
     connected: u8,
-}
-
-/// A hello from one host to another, but for its nonce.
-fn head_of(id: &[u8; 32], from: HostId, to: HostId) -> [u8; 36]
-    ensures { result ≡ head_of id.now from.0 to.0 }
-{
-    let mut head = [0u8; 36];
-    head[0] = 0x47;
-    head[1] = 2;
-    head[34] = from.0;
-    head[35] = to.0;
-    head[2..34].copy_from_slice(id);
-    head
 }
 
 impl Seal {
@@ -94,6 +80,20 @@ impl Seal {
         Some(key)
     }
 
+    /// The own number.
+    pub(crate) fn me(&self) -> HostId
+        ensures { result ≡ self.now.me }
+    {
+        self.me
+    }
+
+    /// The name of the dealing.
+    pub(crate) fn id(&self) -> [u8; 32]
+        ensures { result ≡ self.now.secrets.id }
+    {
+        self.secrets.id
+    }
+
     /// How many connections were tried.
     pub(crate) fn tried(&self) -> u32
         ensures { result ≡ self.now.tried }
@@ -120,13 +120,5 @@ impl Seal {
             to: peer,
             nonce: nonce(&seed, peer, number),
         }
-    }
-
-    /// What is known beforehand of the hello of this host: all but its nonce.
-    pub(crate) fn head_from(&self, peer: HostId) -> [u8; 36]
-        ensures { result ≡ head_of self.now.secrets.id peer.0 self.now.me.0 }
-    {
-        let id = self.secrets.id;
-        head_of(&id, peer, self.me)
     }
 }

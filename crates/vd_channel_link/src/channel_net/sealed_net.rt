@@ -7,15 +7,16 @@ ghost use Rattle.std.specs.Result.{result_map_both};
 ghost use Rattle.vd_base.specs.declared.faults.CallFault.TheVariants as call_fault;
 ghost use Rattle.vd_outside.specs.Causes.{Rose};
 ghost use Rattle.vd_outside.specs.Link.{LinkView};
-ghost use Rattle.vd_outside.specs.Net.{Accepts, Connects, HangsUp, Listens};
+ghost use Rattle.vd_outside.specs.Net.{Accepts, Connects, HangsUp, Listens, Looks};
 ghost use Rattle.vd_channel_link.specs.Outgoing.{SealsLinks, SealsSession, sealer_of};
 ghost use Rattle.vd_channel_link.specs.Ledgers.{has_begun, has_sent, nothing_given, with_given, with_returned};
 ghost use Rattle.vd_channel_link.specs.Seals.{IsKeyFor, IsKeyless, IsMet, IsMetBy, StillSeals, Tries};
 ghost use Rattle.vd_channel_link.specs.Seals.{awaited_at, listening, next_asked, sealed_by};
 ghost use Rattle.vd_channel_link.specs.Views.{sealing};
-ghost use Rattle.vd_channel_link.specs.Waits.{ComesAfter, GivesUp};
+ghost use Rattle.vd_channel_link.specs.Waits.{ComesAfter, GivesUp, post_of};
 
-use crate::channel_handshake::meet;
+use crate::channel_handshake::ask;
+use crate::channel_net::accepting::accept_sealed;
 use crate::channel_net::ledger::Ledger;
 use crate::channel_net::seal::Seal;
 use crate::{SealFault, SealedLink, Session};
@@ -102,7 +103,7 @@ impl<N: Net + Drop> SealedNet<N> {
     }
 }
 
-/// Meets a host over a link, by the key of theirs. One over which it was not met is hung up.
+/// Meets an earlier host over a link to it, by the key of theirs. One over which it was not met is hung up.
 fn meet_over<N: Net>(
     net: &mut N,
     seal: &mut Seal,
@@ -127,51 +128,13 @@ fn meet_over<N: Net>(
     let mut link = link;
     let mut frame = frame;
     let hello = seal.next_hello(peer);
-    match meet(&mut link, &mut frame, &hello, key) {
+    match ask(net, &mut link, &mut frame, &hello, key) {
         Ok(keys) => Ok(SealedLink::over(link, Session::new(frame, keys))),
         Err(fault) => {
             net.hang_up(link);
             Err(fault)
         }
     }
-}
-
-/// The first host that comes to a listener and proves who it is. Why others were hung up is noted. Once all numbers of connections are used
-/// none is awaited any more.
-fn accept_sealed<N: Net>(
-    alloc: Global,
-    net: &mut N,
-    seal: &mut Seal,
-    noted: &mut Option<SealFault>,
-    listener: u32,
-) -> Result<SealedLink<N::Link>, CallFault>
-    requires { listener < (N.view net.old).given }
-    ensures given { (N.view net.new).given ≡ (N.view net.old).given }
-    ensures limit { (N.view net.new).limit ≡ (N.view net.old).limit }
-    ensures kept { Tries seal.old seal.new }
-    ensures fresh { IfOk result (λ link. link.session.faults ≡ 0) }
-    ensures met { IfOk result (λ link. (came : LinkView) ×
-        IsMet seal.old seal.new.tried (awaited_at seal.old listener) link.session came (N.Link.view link.link)) }
-    ensures over { SealsLinks (sealer_of seal.old) (N.view net.old) (N.view net.new) }
-    ensures sealed { IfOk result (λ link. SealsSession (sealer_of seal.old) (N.view net.old) link.session (N.Link.view link.link)) }
-    ensures comes { OnOk result (ComesAfter listener (N.view net.old) (N.view net.new)) }
-    ensures gives_up { IfErr result
-        (GivesUp listener seal.old.tried (IsKeyless seal.old (awaited_at seal.old listener)) (N.view net.old) (N.view net.new)) }
-{
-    let peer = seal.awaited_at(listener);
-    let Some(key) = seal.key_of(peer) else {
-        return Err(CallFault::Failed);
-    };
-    let head = seal.head_from(peer);
-    for _ in seal.tried()..u32::MAX {
-        let frame = Frame::new(alloc)?;
-        let link = net.accept(listener, &head)?;
-        match meet_over(net, seal, frame, link, peer, &key) {
-            Ok(link) => return Ok(link),
-            Err(fault) => *noted = Some(fault),
-        }
-    }
-    Err(CallFault::Failed)
 }
 
 /// A link to an earlier host, which proves who it is. Why it did not is noted. Once all numbers of connections are used none is asked for.
@@ -219,6 +182,8 @@ impl<N: Net + Drop> Net for SealedNet<N> {
 
     // Who a peer is, is known by its proof.
     ghost greets = { λ link greeting. ⊤ };
+
+    ghost at_hand = { λ link count. ⊤ };
 
     fn faults(&self) -> u64 {
         self.faults
@@ -270,9 +235,11 @@ impl<N: Net + Drop> Net for SealedNet<N> {
         ensures sealed { IfSome self.old.seal (λ seal. IfOk result
             (λ link. SealsSession (sealer_of seal) (N.view self.old.net) link.session (N.Link.view link.link))) }
         ensures kept { StillSeals self.old.seal self.new.seal }
-        ensures comes { OnOk result (ComesAfter listener (N.view self.old.net) (N.view self.new.net)) }
-        ensures gives_up { MatchOption self.old.seal ⊤ (λ seal. IfErr result
-            (GivesUp listener seal.tried (IsKeyless seal (awaited_at seal listener)) (N.view self.old.net) (N.view self.new.net))) }
+        ensures comes { MatchOption self.old.seal ⊤ (λ seal. OnOk result
+            (ComesAfter (post_of seal listener) (N.view self.old.net) (N.view self.new.net))) }
+        ensures gives_up { MatchOption self.old.seal ⊤ (λ seal. MatchOption self.new.seal ⊤ (λ later. IfErr result
+            (GivesUp (post_of seal listener) (IsKeyless seal (awaited_at seal listener)) later.tried
+            (N.view self.old.net) (N.view self.new.net)))) }
         ensures ledger { OnOk result (self.new.ledger ≡ with_given self.old.ledger) }
         ensures none { OnErr result (self.new.ledger ≡ self.old.ledger) }
     {
@@ -291,6 +258,31 @@ impl<N: Net + Drop> Net for SealedNet<N> {
             }
         }
     }
+
+    // A link is given when its peer has proved who it is.
+    fn next_comer(
+        &mut self,
+        listener: u32,
+        front: &[u8],
+        _count: u32,
+    ) -> Result<Option<SealedLink<N::Link>>, CallFault>
+        requires { listener < (N.view self.old.net).given }
+        ensures looks { Looks listener
+            (sealing (N.view self.old.net) self.old.faults)
+            (sealing (N.view self.new.net) self.new.faults)
+            (result_map_both (option_map ⟦<SealedLink<N::Link> as Link>⟧.view) (λ fault. fault) result) }
+    {
+        match self.accept(listener, front) {
+            Ok(link) => Ok(Some(link)),
+            Err(fault) => Err(fault),
+        }
+    }
+
+    fn has_come(&mut self, _link: &mut SealedLink<N::Link>, _count: u32) -> bool {
+        true
+    }
+
+    fn await_bytes(&mut self, _link: &mut SealedLink<N::Link>, _count: u32) {}
 
     fn connect(&mut self, address: &str) -> Result<SealedLink<N::Link>, CallFault>
         ensures connects { Connects address.now
