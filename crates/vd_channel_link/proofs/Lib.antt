@@ -19,3 +19,4 @@ mod Tried
 mod FaultsTell
 mod Waiting
 mod Turns
+mod Answering

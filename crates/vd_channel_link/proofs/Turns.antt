@@ -8,7 +8,7 @@ use Rattle.vd_channel_crypto.specs.declared.records.Keys.{Keys}
 use Rattle.vd_channel_link.specs.Courses.{AreWaiting, Course, Ends, Gives, IsHungUp, IsWaiting, Stays}
 use Rattle.vd_channel_link.specs.Outgoing.{IsLinkSealed, IsSealing, Sealer, SealsLinks, sealer_of}
 use Rattle.vd_channel_link.specs.Seals.{IsAnswered, IsKeyFor, IsMet, Tries}
-use Rattle.vd_channel_link.specs.Waits.{Awaits, NoneCame, NobodyThere, OneCame, OneTurnedAway, OneWaitsOn, OneProvedNothing, OneMadeRoom, AtOnce, AfterAWait, NotGiven, Post, Waiter}
+use Rattle.vd_channel_link.specs.Waits.{Awaits, NoneCame, NobodyThere, OneCame, OneTurnedAway, OneWaitsOn, OneProvedNothing, OneMadeRoom, AtOnce, AfterAWait, HangsUpAll, NotGiven, Post, Waiter}
 use Rattle.vd_channel_link.specs.declared.channel_net.answered.Answered.{Answered}
 use Rattle.vd_channel_link.specs.declared.channel_net.seal.Seal.{Seal}
 use Rattle.vd_channel_link.specs.declared.fault.SealFault.{SealFault}
@@ -233,3 +233,38 @@ hung_up_of first second peer awaited came why before now tries same is =
       };
       hangs_up = is.hangs_up;
     }
+
+-- ---- the others are hung up
+
+-- of these hosts the rest is still to be hung up
+pub record Left {L : Type 0} (view : L → LinkView) (post : Post) (tried : ℕ) (start now : NetView) (answered : List (Answered L)) (ones : List Waiter) : Type 0 where
+  pub rest : List Waiter
+  pub are : AreWaiting view post tried answered rest
+  pub hung : (end : NetView) → HangsUpAll rest now end → HangsUpAll ones start end
+  pub over : SealsLinks (sealer_of post.seal) start now
+
+pub all_left : {L : Type 0} (view : L → LinkView) (post : Post) (tried : ℕ) (start : NetView) (answered : List (Answered L)) (ones : List Waiter)
+    → AreWaiting view post tried answered ones → Left view post tried start start answered ones
+all_left view post tried start answered ones are = record { rest = ones; are = are; hung = λ end hung. hung; over = seals_none (sealer_of post.seal) start start refl }
+
+pub one_left : {L : Type 0} (view : L → LinkView) (post : Post) (tried : ℕ) (start now later : NetView) (first : Answered L) (others : List (Answered L)) (ones : List Waiter)
+    → Left view post tried start now (first ∷ others) ones → HangsUp (view first.link) now later → Left view post tried start later others ones
+one_left view post tried start now later first others ones left hangs =
+    let f = first_of_all view post tried first others left.rest left.are in
+    let untold : (view first.link).told ≡ false = ap (λ (v : LinkView). v.told) f.is.link ∙ f.is.untold in
+    let gone : HangsUp f.one.link now later = subst (λ (v : LinkView). HangsUp v now later) f.is.link hangs in
+    record {
+      rest = f.rest;
+      are = f.are;
+      hung = λ end hung. left.hung end (subst (λ (w : List Waiter). HangsUpAll w now end) (sym f.all) (later, gone, hung));
+      over = seals_then (sealer_of post.seal) start now later left.over
+          (seals_hangs_up (sealer_of post.seal) (view first.link) now later hangs (λ tells unused. untold_sealed (sealer_of post.seal) (view first.link) untold));
+    }
+
+pub none_left : {L : Type 0} (view : L → LinkView) (post : Post) (tried : ℕ) (start now : NetView) (ones : List Waiter)
+    → Left view post tried start now [] ones → HangsUpAll ones start now
+none_left view post tried start now ones left = by left.rest left.are left.hung
+  where
+    by : (rest : List Waiter) → AreWaiting view post tried [] rest → ((end : NetView) → HangsUpAll rest now end → HangsUpAll ones start end) → HangsUpAll ones start now
+    by [] are hung = hung now refl
+    by (one ∷ rest) are hung = absurd are

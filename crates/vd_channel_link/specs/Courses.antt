@@ -7,8 +7,8 @@ use Rattle.vd_channel_link.specs.Outgoing.{SealsLinks, SealsSession, sealer_of}
 use Rattle.vd_channel_link.specs.Seals.{IsAnswered, IsMet, IsTurnedAway, Tries}
 use Rattle.vd_channel_link.specs.Waits.{Awaits, Comes, Fails, Post, Waiter}
 use Rattle.vd_channel_link.specs.declared.channel_net.answered.Answered.{Answered}
-use Rattle.vd_channel_link.specs.declared.channel_net.answered.Greeted.{Greeted}
-use Rattle.vd_channel_link.specs.declared.channel_net.answered.Greeted.TheVariants.{Met, Waits}
+use Rattle.vd_channel_link.specs.declared.channel_net.answered.Heard.{Heard}
+use Rattle.vd_channel_link.specs.declared.channel_net.answered.Heard.TheVariants.{Met, Waits}
 use Rattle.vd_channel_link.specs.declared.channel_net.seal.Seal.{Seal}
 use Rattle.vd_channel_link.specs.declared.fault.SealFault.{SealFault}
 use Rattle.vd_channel_link.specs.declared.session.Session.{Session}
@@ -20,7 +20,7 @@ pub record IsHungUp (seal : Seal) (peer : ℕ) (came : LinkView) (why : SealFaul
   pub hangs_up : HangsUp left before now
 
 -- a host whose link came was met, or answered, where its link does not tell its bytes
-abbrev pub IsGreeted : {L : Type 0} → (L → LinkView) → Seal → (tried peer : ℕ) → (came : LinkView) → Greeted L → Type 0
+abbrev pub IsGreeted : {L : Type 0} → (L → LinkView) → Seal → (tried peer : ℕ) → (came : LinkView) → Heard L → Type 0
 IsGreeted view seal tried peer came (Met met) = IsMet seal tried peer met.session came (view met.link)
 IsGreeted view seal tried peer came (Waits answered) =
     ((view answered.link).told ≡ false) × IsAnswered seal tried peer (answered.ours, answered.theirs) came (view answered.link)

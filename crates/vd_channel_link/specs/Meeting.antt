@@ -85,6 +85,28 @@ pub record TakesHello (id : List ℕ) (from to : HostId) (before now : LinkView)
   pub nonce : IfOk result (λ hello. length hello.nonce ≡ 32)
   pub came : IsTrue now.told → IfOk result (λ hello. before.coming ≡ hello_bytes hello ++ now.coming)
 
+-- the own hello went out, and then one to this host from its peer came
+pub record Says (mine : Hello) (before now : LinkView) (result : Result Hello SealFault) : Type 0 where
+  pub later : before.faults ≤ now.faults
+  pub failed : IsErrOf result fault.Peer → Rose before.faults now.faults
+  pub ended : IsErrOf result fault.End → IsTrue now.ended
+  pub was_told : IsTrue now.told → IsTrue before.told
+  pub id_is : IfOk result (λ hello. hello.id ≡ mine.id)
+  pub from_is : IfOk result (λ hello. hello.from ≡ mine.to)
+  pub to_is : IfOk result (λ hello. hello.to ≡ mine.from)
+  pub nonce : IfOk result (λ hello. length hello.nonce ≡ 32)
+  pub sent : IsTrue now.told → IsOk result → now.sent ≡ before.sent ++ hello_bytes mine
+  pub came : IsTrue now.told → IfOk result (λ hello. before.coming ≡ hello_bytes hello ++ now.coming)
+
+-- the first record of each direction went over the link
+pub record Proves (ours theirs : Direction) (before now : LinkView) (result : Result (Unit {0}) SealFault) : Type 0 where
+  pub later : before.faults ≤ now.faults
+  pub failed : IsErrOf result fault.Peer → Rose before.faults now.faults
+  pub ended : IsErrOf result fault.End → IsTrue now.ended
+  pub was_told : IsTrue now.told → IsTrue before.told
+  pub sent : IsTrue now.told → OnOk result (now.sent ≡ before.sent ++ sealed ours 0 [])
+  pub came : IsTrue now.told → OnOk result (before.coming ≡ sealed theirs 0 [] ++ now.coming)
+
 -- the first record of the other direction came, which carries no bytes, and nothing was sent
 pub record TakesProof (theirs : Direction) (before now : LinkView) (result : Result (Unit {0}) SealFault) : Type 0 where
   pub later : before.faults ≤ now.faults
@@ -108,7 +130,8 @@ pub record SaysNoMore (mine : Hello) (key : List ℕ) (before now : LinkView) : 
 abbrev pub SendsNoMore : (bytes : List ℕ) → (before now : LinkView) → Type 0
 SendsNoMore bytes before now = IsTrue now.told → (count : ℕ) × (now.sent ≡ before.sent ++ take count bytes)
 
--- The hello of a peer was heard and answered by the own one and the first record of the own direction: these are the keys that the two hellos make.
+-- The hello of a peer was heard and answered by the own one and the first record of the own direction: these are the keys that the two
+-- hellos make.
 pub record HasAnswered (mine theirs : Hello) (key : List ℕ) (before now : LinkView) (keys : Keys × Keys) : Type 0 where
   pub id_is : theirs.id ≡ mine.id
   pub from_is : theirs.from ≡ mine.to
@@ -124,10 +147,11 @@ pub record HasAnswered (mine theirs : Hello) (key : List ℕ) (before now : Link
 abbrev pub IsCounted : SealFault → LinkView → Type 0
 IsCounted why left = why ≡ fault.Peer → 0 < left.faults
 
--- What is wrong with a host that came, whose link is then hung up for this reason: it said no hello of this dealing and these hosts, and nothing was
--- said to it; or it said one, and proved nothing by the keys that both hellos make.
+-- What is wrong with a host that came, whose link is then hung up for this reason: it said no hello of this dealing and these hosts, and
+-- nothing was said to it; or it said one, and proved nothing by the keys that both hellos make.
 pub data IsStranger (mine : Hello) (key : List ℕ) (came left : LinkView) (why : SealFault) : Type 0 where
-  SaidNoHello : IsHelloFault (head_of mine.id mine.to.0 mine.from.0) came.coming why → left.sent ≡ came.sent → IsStranger mine key came left why
+  SaidNoHello : IsHelloFault (head_of mine.id mine.to.0 mine.from.0) came.coming why → left.sent ≡ came.sent
+      → IsStranger mine key came left why
   ProvedNothing : (theirs : Hello) (rest : List ℕ) → IsHeard mine theirs came.coming rest
       → IsProofFault (link_direction key theirs.from.0 (digest_between mine theirs)) rest why → IsStranger mine key came left why
 

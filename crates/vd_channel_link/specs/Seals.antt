@@ -87,8 +87,8 @@ pub record IsAnswered (seal : Seal) (tried peer : ℕ) (keys : Keys × Keys) (ca
   pub theirs : Hello
   pub answered : HasAnswered mine theirs key came now keys
 
--- A host that came and is hung up for this reason. Where its link tells its bytes, it was a stranger to a hello to this peer, by the key of the link to it;
--- and where the link failed, that was counted.
+-- A host that came and is hung up for this reason. Where its link tells its bytes, it was a stranger to a hello to this peer, by the key of
+-- the link to it; and where the link failed, that was counted.
 pub record IsTurnedAway (seal : Seal) (peer : ℕ) (came left : LinkView) (why : SealFault) : Type 0 where
   pub mine : Hello
   pub id : mine.id ≡ seal.secrets.id

@@ -23,8 +23,8 @@ pub record Post : Type 0 where
 abbrev pub post_of : Seal → (listener : ℕ) → Post
 post_of seal listener = record { seal = seal; peer = awaited_at seal listener; listener = listener }
 
--- What happened at a listener in so many turns: these wait, in the order in which they are looked at. Each host that came waits until it is given,
--- unless it is turned away, or as many wait as may. Nobody waits whose link tells its bytes: its proof is at hand.
+-- What happened at a listener in so many turns: these wait, in the order in which they are looked at. Each host that came waits until it is
+-- given, unless it is turned away, or as many wait as may. Nobody waits whose link tells its bytes: its proof is at hand.
 pub data Awaits (post : Post) (start : NetView) : (turns : ℕ) → (waiting : List Waiter) → NetView → Type 0 where
   NoneCame : Awaits post start 0 [] start
   NobodyThere : (turns : ℕ) (waiting : List Waiter) (net : NetView) → Awaits post start turns waiting net → net.told ≡ false
@@ -48,12 +48,14 @@ pub data Comes (post : Post) (start : NetView) (waiting : List Waiter) (now : Ne
       → Comes post start waiting now
   AfterAWait : (turns : ℕ) (one : Waiter) → Awaits post start turns (one ∷ waiting) now → Comes post start waiting now
 
--- Why no link is given while these wait: there is no memory, the net below gives none, or all numbers of connections are used, or all turns taken.
+-- Why no link is given while these wait: there is no memory, the net below gives none, or all numbers of connections are used, or all turns
+-- taken.
 pub data Fails (post : Post) (tried : ℕ) (start : NetView) (waiting : List Waiter) (now : NetView) : CallFault → Type 0 where
   NoRoom : (turns : ℕ) → Awaits post start turns waiting now → Fails post tried start waiting now call_fault.Memory
-  NotGiven : (turns : ℕ) (net : NetView) (fault : CallFault) → Awaits post start turns waiting net → Accepts post.listener net now (Err fault)
-      → Fails post tried start waiting now fault
-  AllNumbersUsed : (turns : ℕ) → tried ≡ 2 ^ 32 - 1 → Awaits post start turns waiting now → Fails post tried start waiting now call_fault.Failed
+  NotGiven : (turns : ℕ) (net : NetView) (fault : CallFault) → Awaits post start turns waiting net
+      → Accepts post.listener net now (Err fault) → Fails post tried start waiting now fault
+  AllNumbersUsed : (turns : ℕ) → tried ≡ 2 ^ 32 - 1 → Awaits post start turns waiting now
+      → Fails post tried start waiting now call_fault.Failed
   AllTurnsTaken : Awaits post start (2 ^ 64 - 1) waiting now → Fails post tried start waiting now call_fault.Failed
 
 -- all of these are hung up
@@ -71,5 +73,5 @@ pub record ComesAfter (post : Post) (start now : NetView) : Type 0 where
 -- Why no link is given: the peer has no key, or what is said above. Never because a stranger came, or came first.
 pub data GivesUp (post : Post) (HasNoKey : Type 0) (tried : ℕ) (start now : NetView) : CallFault → Type 0 where
   NoKey : HasNoKey → now ≡ start → GivesUp post HasNoKey tried start now call_fault.Failed
-  NotMet : (waiting : List Waiter) (net : NetView) (fault : CallFault) → Fails post tried start waiting net fault → HangsUpAll waiting net now
-      → GivesUp post HasNoKey tried start now fault
+  NotMet : (waiting : List Waiter) (net : NetView) (fault : CallFault) → Fails post tried start waiting net fault
+      → HangsUpAll waiting net now → GivesUp post HasNoKey tried start now fault

@@ -146,7 +146,7 @@ pub struct SystemListener<L: Drop, S: Drop> {
     /// When the wait at it began, where it did.
     began: Option<Instant>,
     comers: Vec<Comer<S>>,
-    /// How many were let go.
+    /// How many were let go, or given: where the wait goes on they were strangers.
     strangers: u32,
 }
 
@@ -205,8 +205,8 @@ fn is_one_of(error: &io::Error, numbers: &[i32]) -> bool {
     }
 }
 
-/// The next stream that comes to a listener, if somebody is there. Where the system has no room for one more, the one is let go that has been
-/// silent longest. Who is gone before that is nobody.
+/// The next stream that comes to a listener, if somebody is there. Where the system has no room for one more, the one is let go that has
+/// been silent longest. Who is gone before that is nobody.
 fn next_stream<S: Drop, L: OpenListener<Stream = S> + Drop>(
     place: &mut SystemListener<L, S>,
 ) -> io::Result<Option<S>> {
@@ -275,7 +275,10 @@ fn choose<R: Clock, S: OpenStream + Drop, L: Drop>(
             break;
         }
         match look_at(rt, &mut place.comers[next], wanted)? {
-            Some(true) => return Ok(Some(place.comers.remove(next))),
+            Some(true) => {
+                place.strangers = place.strangers.saturating_add(1);
+                return Ok(Some(place.comers.remove(next)));
+            }
             Some(false) => place.let_go(next),
             None => next += 1,
         }
@@ -283,8 +286,8 @@ fn choose<R: Clock, S: OpenStream + Drop, L: Drop>(
     Ok(None)
 }
 
-/// One turn of the wait for a peer at a listener: one who brought what is wanted; `None` where a moment went by without one. It is an error where
-/// the wait is over, which began with its first turn.
+/// One turn of the wait for a peer at a listener: one who brought what is wanted; `None` where a moment went by without one. It is an error
+/// where the wait is over, which began with its first turn.
 pub(crate) fn turn<R: Clock, S: OpenStream + Drop, L: OpenListener<Stream = S> + Drop>(
     rt: &R,
     waits: &Waits,

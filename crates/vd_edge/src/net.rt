@@ -1,4 +1,4 @@
-ghost use Rattle.std.specs.Prelude.{◌≡◌, ◌<◌, ◌++◌, ◌∷◌, [], IfOk, IfSome, OnOk, Some, option_map, slice_get, vec_len};
+ghost use Rattle.std.specs.Prelude.{◌≡◌, ◌<◌, ◌++◌, ◌∷◌, [], false, IfOk, IfSome, OnOk, Some, option_map, slice_get, vec_len};
 ghost use Rattle.std.specs.Result.{result_map_both};
 ghost use Rattle.vd_edge.specs.Duplex.{link_view};
 ghost use Rattle.vd_edge.specs.Net.{net_view};

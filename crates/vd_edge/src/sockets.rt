@@ -49,8 +49,8 @@ pub trait Sockets {
         ensures came { IfOk result (λ stream. came_to stream listener.old) }
         ensures greets { IfOk result (λ stream. greets stream greeting.now) };
 
-    /// One that came to a listener, over which so many bytes have come, of which these are the first; `None` where a moment went by without one.
-    /// Those who come are awaited side by side, and stay until they are given.
+    /// One that came to a listener, over which so many bytes have come, of which these are the first; `None` where a moment went by without
+    /// one. Those who come are awaited side by side, and stay until they are given.
     fn next_comer(
         &self,
         listener: &mut Self::Listener,
@@ -60,8 +60,8 @@ pub trait Sockets {
         ensures came { IfOk result (λ found. IfSome found (λ stream. came_to stream listener.old)) }
         ensures at_hand { IfOk result (λ found. IfSome found (λ stream. at_hand stream count)) };
 
-    /// Whether so many bytes are taken from a stream without a wait: they have come, or no more will. `None` where that is to be seen. They have
-    /// ten seconds, from when the stream was made: then it is not so.
+    /// Whether so many bytes are taken from a stream without a wait: they have come, or no more will. `None` where that is to be seen. They
+    /// have ten seconds, from when the stream was made: then it is not so.
     fn has_come(&self, stream: &Self::Stream, count: u32) -> Option<bool>
         ensures told { IsTrue (Self.Stream.view stream.now).told → IsSome result }
         ensures at_hand { IfSome result (λ came. IsTrue came → at_hand stream.now count) };
@@ -183,8 +183,8 @@ fn connected<R: Network + Clock>(rt: &R, waits: &Waits, address: &str) -> io::Re
     }
 }
 
-/// Whether so many bytes are taken from a stream without a wait, and `None` where that is to be seen. They have ten seconds from when it was
-/// made, and no longer than a wait may last.
+/// Whether so many bytes are taken from a stream without a wait, and `None` where that is to be seen. They have ten seconds from when it
+/// was made, and no longer than a wait may last.
 fn at_hand<R: Clock, S: Read + Write + OpenStream + Drop>(
     rt: &R,
     waits: &Waits,

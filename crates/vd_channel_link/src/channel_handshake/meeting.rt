@@ -5,8 +5,8 @@ ghost use Rattle.vd_channel_crypto.specs.Hellos.{hello_bytes};
 ghost use Rattle.vd_channel_crypto.specs.Keys.{direction};
 ghost use Rattle.vd_channel_crypto.specs.Records.{sealed};
 ghost use Rattle.vd_outside.specs.Link.{SendsAll};
-ghost use Rattle.vd_channel_link.specs.Meeting.{IsMeetFault, IsProofFault, Meets, RefusesFor, RefusesHello};
-ghost use Rattle.vd_channel_link.specs.Meeting.{SaysNoMore, TakesHello, TakesProof};
+ghost use Rattle.vd_channel_link.specs.Meeting.{IsMeetFault, IsProofFault, Meets, Proves, RefusesFor, RefusesHello, Says};
+ghost use Rattle.vd_channel_link.specs.Meeting.{SaysNoMore, SendsNoMore, TakesHello, TakesProof};
 
 use crate::{SealFault, fill, take_record};
 use vd_base::{Failed, HostId};
@@ -95,11 +95,51 @@ pub(crate) const HELLO_BYTES: u32 = 68;
 /// How many bytes the record has that proves who has the key.
 pub(crate) const PROOF_BYTES: u32 = 34;
 
+/// Says the own hello, and takes that of the peer behind it.
+fn exchange_hellos<N: Net>(
+    net: &mut N,
+    link: &mut N::Link,
+    frame: &mut Frame,
+    mine: &Hello,
+) -> Result<Hello, SealFault>
+    ensures net { N.view net.new ≡ N.view net.old }
+    ensures says { Says mine.now (N.Link.view link.old) (N.Link.view link.new) result }
+    ensures out { SendsNoMore (hello_bytes mine.now) (N.Link.view link.old) (N.Link.view link.new) }
+    ensures refused { RefusesHello mine.now.id mine.now.to mine.now.from (N.Link.view link.old) (N.Link.view link.new) result }
+{
+    if say_hello(link, frame, mine).is_err() {
+        return Err(SealFault::Peer);
+    }
+    net.await_bytes(link, HELLO_BYTES);
+    take_hello::<N>(link, &mine.id, mine.to, mine.from)
+}
+
+/// Sends the record that proves who has the key, and takes that of the peer behind it. Neither carries bytes.
+fn prove_both<N: Net>(
+    net: &mut N,
+    link: &mut N::Link,
+    frame: &mut Frame,
+    ours: &Keys,
+    theirs: &Keys,
+) -> Result<(), SealFault>
+    ensures net { N.view net.new ≡ N.view net.old }
+    ensures proves { Proves (direction ours.now) (direction theirs.now) (N.Link.view link.old) (N.Link.view link.new) result }
+    ensures out { SendsNoMore (sealed (direction ours.now) 0 []) (N.Link.view link.old) (N.Link.view link.new) }
+    ensures refused { RefusesFor (IsProofFault (direction theirs.now)) (N.Link.view link.old) (N.Link.view link.new) result }
+{
+    if say_proof(link, frame, ours).is_err() {
+        return Err(SealFault::Peer);
+    }
+    net.await_bytes(link, PROOF_BYTES);
+    take_proof::<N>(link, theirs)
+}
+
 /// Meets the peer that this hello is for, which awaits it at a listener, over a link whose key both have: says the own hello first. Gives
 /// the keys of both directions, the own first. The peer has ten seconds for its hello and its proof.
 ///
 /// Refuses a peer of another version, of another dealing or with another number, and one that does not prove that it has the key
 /// and heard the same two hellos. Whatever comes of it, no more than the hello and the first record goes out.
+#[tactic(auto, using(crate::proofs::Refusing::of_hello))]
 pub(crate) fn ask<N: Net>(
     net: &mut N,
     link: &mut N::Link,
@@ -112,16 +152,8 @@ pub(crate) fn ask<N: Net>(
     ensures out { IsTrue (N.Link.view link.new).told → SaysNoMore mine.now key.now (N.Link.view link.old) (N.Link.view link.new) }
     ensures refused { RefusesFor (IsMeetFault mine.now key.now) (N.Link.view link.old) (N.Link.view link.new) result }
 {
-    if say_hello(link, frame, mine).is_err() {
-        return Err(SealFault::Peer);
-    }
-    net.await_bytes(link, HELLO_BYTES);
-    let theirs = take_hello::<N>(link, &mine.id, mine.to, mine.from)?;
+    let theirs = exchange_hellos(net, link, frame, mine)?;
     let (own, other) = frame.keys_of(key, mine, &theirs);
-    if say_proof(link, frame, &own).is_err() {
-        return Err(SealFault::Peer);
-    }
-    net.await_bytes(link, PROOF_BYTES);
-    take_proof::<N>(link, &other)?;
+    prove_both(net, link, frame, &own, &other)?;
     Ok((own, other))
 }

@@ -9,7 +9,7 @@ ghost use Rattle.vd_channel_link.specs.Seals.{IsKeyFor, IsKeyless, IsMet, Tries,
 ghost use Rattle.vd_channel_link.specs.Waits.{ComesAfter, GivesUp, HangsUpAll, Post, Waiter, post_of};
 
 use crate::channel_handshake::{HELLO_BYTES, HELLO_FRONT, PROOF_BYTES};
-use crate::channel_net::answered::{Answered, Greeted, greet, take_proven};
+use crate::channel_net::answered::{Answered, Heard, greet, take_proven};
 use crate::channel_net::seal::Seal;
 use crate::{SealFault, SealedLink};
 use std::alloc::Global;
@@ -20,8 +20,8 @@ use vd_outside::Net;
 /// How many hosts that were answered are awaited at once. Where so many wait the one is hung up that was looked at last.
 const MOST_ANSWERED: usize = 64;
 
-/// Looks at the next of the hosts that were answered. One whose proof is still to come waits on, behind the others; one that has proved itself is
-/// given; and one that proved nothing is hung up, and why is noted.
+/// Looks at the next of the hosts that were answered. One whose proof is still to come waits on, behind the others; one that has proved
+/// itself is given; and one that proved nothing is hung up, and why is noted.
 fn look_at_next<N: Net>(
     net: &mut N,
     noted: &mut Option<SealFault>,
@@ -63,8 +63,8 @@ fn make_room<N: Net>(net: &mut N, waiting: &mut Vec<Answered<N::Link>>)
     }
 }
 
-/// Greets the next host that came to a listener, if one did. One whose proof is still to come waits behind the others; one that has proved itself
-/// is given. Why one was hung up is noted. Once all numbers of connections are used none is greeted any more.
+/// Greets the next host that came to a listener, if one did. One whose proof is still to come waits behind the others; one that has proved
+/// itself is given. Why one was hung up is noted. Once all numbers of connections are used none is greeted any more.
 fn let_in<N: Net>(
     alloc: Global,
     net: &mut N,
@@ -95,8 +95,8 @@ fn let_in<N: Net>(
         return Ok(None);
     };
     match greet(net, seal, frame, link, peer, key) {
-        Ok(Greeted::Met(link)) => Ok(Some(link)),
-        Ok(Greeted::Waits(answered)) => {
+        Ok(Heard::Met(link)) => Ok(Some(link)),
+        Ok(Heard::Waits(answered)) => {
             waiting.push_reserved(answered);
             Ok(None)
         }
@@ -154,8 +154,8 @@ fn hang_up_all<N: Net>(net: &mut N, waiting: &mut Vec<Answered<N::Link>>)
     }
 }
 
-/// The first host that comes to a listener and proves who it is. Why others were hung up is noted. All who come are awaited side by side, and
-/// stay until it has proved itself.
+/// The first host that comes to a listener and proves who it is. Why others were hung up is noted. All who come are awaited side by side,
+/// and stay until it has proved itself.
 pub(crate) fn accept_sealed<N: Net>(
     alloc: Global,
     net: &mut N,

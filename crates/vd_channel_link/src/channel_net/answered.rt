@@ -24,9 +24,9 @@ pub struct Answered<L: Link + Drop> {
     theirs: Keys,
 }
 
-/// A host that came and said its hello.
+/// A host that came, and whose hello was heard.
 #[derive(Drop)]
-pub(crate) enum Greeted<L: Link + Drop> {
+pub(crate) enum Heard<L: Link + Drop> {
     /// It proved who it is.
     Met(SealedLink<L>),
     /// Its proof is still to come.
@@ -144,7 +144,7 @@ pub(crate) fn greet<N: Net>(
     link: N::Link,
     peer: HostId,
     key: &[u8; 32],
-) -> Result<Greeted<N::Link>, SealFault>
+) -> Result<Heard<N::Link>, SealFault>
     requires key { IsKeyFor seal.old.me.0 seal.old.secrets peer.0 key.now }
     requires number { seal.old.tried < u32.MAX }
     requires at_hand { N.at_hand link 68 }
@@ -158,8 +158,8 @@ pub(crate) fn greet<N: Net>(
 {
     let mut answered = answer(net, seal, frame, link, peer, key)?;
     if !net.has_come(&mut answered.link, PROOF_BYTES) {
-        return Ok(Greeted::Waits(answered));
+        return Ok(Heard::Waits(answered));
     }
     let link = take_proven(net, answered)?;
-    Ok(Greeted::Met(link))
+    Ok(Heard::Met(link))
 }
