@@ -30,6 +30,8 @@ impl<'a, R: SealedRun, N: Net + Drop> Net for RunNet<'a, R, N> {
     // Who a peer is, is known by its proof.
     ghost greets = { λ link greeting. ⊤ };
 
+    ghost at_hand = { λ link count. ⊤ };
+
     fn faults(&self) -> u64 {
         self.net.faults()
     }
@@ -48,6 +50,25 @@ impl<'a, R: SealedRun, N: Net + Drop> Net for RunNet<'a, R, N> {
             Err(fault) => Err(fault),
         }
     }
+
+    // A link is given when its peer has proved who it is.
+    fn next_comer(
+        &mut self,
+        listener: u32,
+        front: &[u8],
+        _count: u32,
+    ) -> Result<Option<RunLink<R, N::Link>>, CallFault> {
+        match self.accept(listener, front) {
+            Ok(link) => Ok(Some(link)),
+            Err(fault) => Err(fault),
+        }
+    }
+
+    fn has_come(&mut self, _link: &mut RunLink<R, N::Link>, _count: u32) -> bool {
+        true
+    }
+
+    fn await_bytes(&mut self, _link: &mut RunLink<R, N::Link>, _count: u32) {}
 
     fn connect(&mut self, address: &str) -> Result<RunLink<R, N::Link>, CallFault> {
         match self.net.connect(address) {
