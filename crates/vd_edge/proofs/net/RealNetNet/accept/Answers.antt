@@ -4,7 +4,8 @@ use Rattle.vd_edge.proofs.net.RealNetNet.accept.Goals as goal
 
 pub returns-in-Ok-clause-came : goal.returns-in-Ok-clause-came
 returns-in-Ok-clause-came g c asked at =
-    let one : c.index.result.now ≡ asked = c.index.ensures ∙ get_or_from_slice_get c.args.self.now.listeners.items c.args.listener asked c.index.result.now at in
+    let place = c.index_mut-place in
+    let one : place.result.now ≡ asked = place.ensures.value ∙ get_or_from_slice_get c.args.self.now.listeners.items c.args.listener asked place.result.now at in
     let came : g.N.Sockets.came_to c.in-Ok.stream asked = subst (λ listener. g.N.Sockets.came_to c.in-Ok.stream listener) one c.in-Ok.ensures.came in
     subst (λ stream. g.N.Sockets.came_to stream asked) (sym c.new.ensures.stream) came
 
