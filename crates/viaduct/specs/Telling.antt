@@ -1,5 +1,5 @@
 -- What a person is told besides, and who asks for it.
-use Rattle.std.specs.Prelude.{◌≡◌, ℕ, Bool, List, [], ◌∷◌, codes, Option, None, Some, if◌then◌else◌}
+use Rattle.std.specs.Prelude.{◌≡◌, ◌≢◌, ℕ, Bool, true, false, List, [], ◌∷◌, codes, Option, None, Some, if◌then◌else◌}
 use Rattle.vd_outside.specs.Sink.{SinkView}
 use Rattle.vd_cmd_plan.specs.declared.status.Status.{Status}
 use Rattle.vd_cmd_plan.specs.declared.status.Status.TheVariants.{Ended}
@@ -50,3 +50,13 @@ IsTold telling.Packets status sent is_host is_passed is_reasons before now = Tel
 IsTold telling.Fault status sent is_host is_passed is_reasons before now = TellsReasons status is_host is_reasons before now
 IsTold telling.NoText status sent is_host is_passed is_reasons before now =
     Tells (reason_line None (codes "a word is no UTF-8") ∷ []) before now
+
+-- Of a run that did not end well reasons are told to whom asked for them, and to nobody else. At a terminal alone the packets are told of
+-- another one.
+pub record ReasonsAreAsked : Type 0 where
+  pub unasked : (caller : Caller) (status : Status) → caller.told ≡ false → status ≢ Ended → telling_of caller status ≡ telling.Nothing
+  pub asked : (caller : Caller) (status : Status) → caller.told ≡ true → caller.readable ≡ true → status ≢ Ended
+      → telling_of caller status ≡ telling.Fault
+  pub no_text : (caller : Caller) (status : Status) → caller.told ≡ true → caller.readable ≡ false → status ≢ Ended
+      → telling_of caller status ≡ telling.NoText
+  pub file : (caller : Caller) → caller.destination ≡ File → telling_of caller Ended ≡ telling.Nothing

@@ -2,7 +2,7 @@
 
 ghost use Rattle.std.specs.Prelude.{◌≡◌, ℕ, List, Option, IfOk, OnOk, drop, is_some, map, option_map, string_bytes};
 ghost use Rattle.vd_shell.specs.declared.telling.Reasons.{Reasons};
-ghost use Rattle.viaduct.specs.Telling.{IsTold, TellsPackets, TellsReasons, fault_telling, success_telling, telling_of, words_in};
+ghost use Rattle.viaduct.specs.Telling.{IsTold, ReasonsAreAsked, TellsPackets, TellsReasons, fault_telling, success_telling, telling_of, words_in};
 
 use crate::program::{Ending, words_of};
 use std::alloc::{AllocError, Global};
@@ -100,6 +100,11 @@ fn telling_of(caller: &Caller, status: &Status) -> Telling
         _ => fault_telling(caller.told, caller.readable),
     }
 }
+
+/// Whom a person is told reasons, and who is told none.
+pub(crate) fn reasons_are_told_to_who_asks()
+    ensures { ReasonsAreAsked }
+{}
 
 /// What the objects of a run know afterwards.
 pub(crate) trait Known {
