@@ -20,3 +20,4 @@ mod FaultsTell
 mod Waiting
 mod Turns
 mod Answering
+mod LetIn

@@ -11,3 +11,4 @@ pub mod Seals
 pub mod Views
 pub mod Waits
 pub mod Courses
+pub mod Letting
