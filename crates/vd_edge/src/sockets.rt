@@ -1,4 +1,4 @@
-ghost use Rattle.std.specs.Prelude.{◌≡◌, ℕ, List, Option, IfOk, IfSome, IsSome, IsTrue, ⊤};
+ghost use Rattle.std.specs.Prelude.{◌≡◌, ◌≤◌, ℕ, List, Option, IfOk, IfSome, IsSome, IsTrue, ⊤};
 
 use crate::comers::{
     GREETING_SECONDS, SystemListener, Wanted, accept_first, accept_greeting, left, looked_at,
@@ -127,20 +127,36 @@ fn not_own<S: OpenStream + Drop>(stream: S) -> io::Result<S> {
     }
 }
 
-/// A stream to an address. Each machine that goes by it is tried for a second at most, and for no longer than is left of a wait that
-/// began then.
+/// For how many seconds a machine is tried at most, where so many tries came to nothing: for longer each time, since the way to it may be
+/// long, and never for so long that a run which is over goes unnoticed.
+fn patience(tries: u64) -> u64
+    ensures first { tries ≡ 0 → result ≡ 1 }
+    ensures later { 3 ≤ tries → result ≡ 8 }
+    ensures most { result ≤ 8 }
+{
+    match tries {
+        0 => 1,
+        1 => 2,
+        2 => 4,
+        _ => 8,
+    }
+}
+
+/// A stream to an address. Each machine that goes by it is tried for so many seconds at most, and for no longer than is left of a wait
+/// that began then.
 fn connect_once<R: Network + Clock>(
     rt: &R,
     address: &str,
     start: &Instant,
     limit: Duration,
+    seconds: u64,
 ) -> io::Result<R::Stream> {
     let mut last = io::Error::from(ErrorKind::InvalidInput);
     for to in address.to_socket_addrs(rt)? {
         let Some(left) = left(rt, start, limit)? else {
             return Err(silent());
         };
-        match rt.connect_timeout(to, left.min(Duration::from_secs(1))) {
+        match rt.connect_timeout(to, left.min(Duration::from_secs(seconds))) {
             Ok(stream) => match not_own(stream) {
                 Ok(stream) => return Ok(stream),
                 Err(error) => last = error,
@@ -151,7 +167,7 @@ fn connect_once<R: Network + Clock>(
     Err(last)
 }
 
-/// A stream to an address. It is tried again each half second, as long as a wait may last.
+/// A stream to an address. It is tried again each half second, as long as a wait may last, and with more patience each time.
 fn connect_soon<R: Network + Clock>(
     rt: &R,
     waits: &Waits,
@@ -159,8 +175,8 @@ fn connect_soon<R: Network + Clock>(
     limit: Duration,
 ) -> io::Result<R::Stream> {
     let start = Instant::now(rt)?;
-    for _ in 0..u64::MAX {
-        let error = match connect_once(rt, address, &start, limit) {
+    for tries in 0..u64::MAX {
+        let error = match connect_once(rt, address, &start, limit, patience(tries)) {
             Ok(stream) => return Ok(stream),
             Err(error) => error,
         };
