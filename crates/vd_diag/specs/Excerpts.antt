@@ -23,11 +23,15 @@ place file line column = file ++ codes ":" ++ decimal line ++ codes ":" ++ decim
 abbrev pub head : Bool → List ℕ → List ℕ → List ℕ
 head coloured place sentence = bold coloured place ++ codes " " ++ sentence ++ codes "\n"
 
+-- of a file whose text is shown to nobody
+abbrev pub headline : Bool → List ℕ → List ℕ → ℕ → List ℕ → List ℕ
+headline coloured file bytes offset sentence = head coloured (place file (line_number bytes offset) (column bytes offset)) sentence
+
 -- a line in two parts, and a caret below the second
 abbrev pub marked : Bool → List ℕ → List ℕ → ℕ → List ℕ
 marked coloured before behind width = before ++ behind ++ codes "\n" ++ replicate width 32 ++ red coloured (codes "^") ++ codes "\n"
 
 abbrev pub excerpt : Bool → List ℕ → List ℕ → ℕ → List ℕ → List ℕ
 excerpt coloured file bytes offset sentence =
-    head coloured (place file (line_number bytes offset) (column bytes offset)) sentence
+    headline coloured file bytes offset sentence
     ++ marked coloured (shown (line_before bytes offset)) (shown (line_behind bytes offset)) (width (line_before bytes offset))

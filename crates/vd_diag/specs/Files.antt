@@ -1,11 +1,6 @@
--- Sentences on faults of inputs, schedules and machine-written files.
-use Rattle.std.specs.Prelude.{ℕ, List, codes, drop, decimal}
-use Rattle.std.specs.List.{take_while}
-use Rattle.vd_base.specs.Lexical.{is_word_byte}
+-- Sentences on names of hosts, schedules and machine-written files.
+use Rattle.std.specs.Prelude.{ℕ, List, codes, decimal}
 use Rattle.vd_diag.specs.Parts.{three}
-
-unfoldable pub inputs_sentence : List ℕ
-inputs_sentence = codes "an inputs file has, for each host at most once, its name, a colon and numbers of at most 4294967295"
 
 unfoldable pub schedule_sentence : List ℕ
 schedule_sentence = codes "a schedule has names of hosts, and may end with `all`"
@@ -19,10 +14,6 @@ certificate_sentence offset = three (codes "from byte ") (decimal offset) (codes
 
 abbrev pub program_sentence : ℕ → List ℕ
 program_sentence offset = three (codes "from byte ") (decimal offset) (codes " on no host program goes on as this file does; `viaduct compile` makes host programs")
-
--- the name that stands at an offset
-abbrev pub name_at : List ℕ → ℕ → List ℕ
-name_at bytes offset = take_while is_word_byte (drop offset bytes)
 
 abbrev pub host_sentence : List ℕ → List ℕ
 host_sentence word = three (codes "`") word (codes "` is no host of the source")

@@ -1,5 +1,6 @@
 pub mod Parts
 pub mod Remarks
+pub mod Inputs
 pub mod Files
 pub mod Usage
 pub mod Lines

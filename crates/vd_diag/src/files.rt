@@ -1,40 +1,25 @@
-//! Sentences on faults of inputs, schedules and machine-written files, and on a search.
+//! Sentences on names of hosts, schedules and machine-written files, and on a search.
 
 ghost use Rattle.std.specs.Prelude.{◌≡◌, IfOk};
 ghost use Rattle.vd_diag.specs.Files as files;
+ghost use Rattle.vd_diag.specs.Inputs.{token_at as token_there};
 
+use crate::inputs::token_at;
 use crate::parts::three;
 use itoa::Buffer;
 use std::alloc::{AllocError, Global};
-use vd_base::{Bytes, word_len};
-
-/// The name that stands at an offset.
-#[tactic(auto, using(std::proofs::lemmas::List::drop_min))]
-fn name_at(bytes: &[u8], offset: u32) -> &[u8]
-    ensures { result.now ≡ files.name_at bytes.now offset }
-{
-    let rest = &bytes[(offset as usize).min(bytes.len())..];
-    &rest[..word_len(rest)]
-}
+use vd_base::Bytes;
 
 /// What is said of a name at an offset that is no host of the source.
 pub fn host_sentence(alloc: Global, bytes: &[u8], offset: u32) -> Result<Bytes, AllocError>
-    ensures { IfOk result (λ text. text ≡ files.host_sentence (files.name_at bytes.now offset)) }
+    ensures { IfOk result (λ text. text ≡ files.host_sentence (token_there bytes.now offset)) }
 {
     three(
         alloc,
         b"`",
-        name_at(bytes, offset),
+        token_at(bytes, offset),
         b"` is no host of the source",
     )
-}
-
-/// What an inputs file has.
-#[tactic(auto, unfolding(crate::specs::Files::inputs_sentence))]
-pub fn inputs_sentence() -> &'static str
-    ensures { result.now ≡ files.inputs_sentence }
-{
-    "an inputs file has, for each host at most once, its name, a colon and numbers of at most 4294967295"
 }
 
 /// What a schedule has.

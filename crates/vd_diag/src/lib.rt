@@ -5,6 +5,7 @@
 mod diag_place;
 mod fault;
 mod files;
+mod inputs;
 mod laws;
 mod parts;
 mod remark;
@@ -12,15 +13,16 @@ mod tables;
 mod telling;
 mod usage;
 
-pub use diag_place::{excerpt, line_behind, line_number};
+pub use diag_place::{excerpt, headline, line_behind, line_number};
 pub use fault::TellFault;
 pub use files::{
-    certificate_sentence, deal_sentence, host_sentence, inputs_sentence, no_assignment_sentence,
-    program_sentence, schedule_sentence, spent_sentence,
+    certificate_sentence, deal_sentence, host_sentence, no_assignment_sentence, program_sentence,
+    schedule_sentence, spent_sentence,
 };
+pub use inputs::{inputs_sentence, token_at};
 pub use laws::places_count_from_one;
 pub use parts::{three, word_at};
 pub use remark::Remark;
 pub use tables::in_table;
-pub use telling::tell;
+pub use telling::{tell, tell_place};
 pub use usage::usage_of;

@@ -8,3 +8,4 @@ mod Searched
 mod Seen
 mod Arms
 mod Pure
+mod Alike

@@ -1,5 +1,5 @@
 -- What holds of all other statuses and faults.
-use Rattle.std.proofs.Common.{◌≡◌, ◌≢◌, ℕ, List, [], Option, None, refl}
+use Rattle.std.proofs.Common.{◌≡◌, ◌≢◌, ℕ, Bool, List, [], Option, None, refl}
 use Rattle.vd_cmd_plan.specs.Labelled.{LabelledForm}
 use Rattle.vd_cmd_plan.specs.declared.status.HostStatus.{HostStatus}
 use Rattle.vd_cmd_plan.specs.declared.status.HostStatus.TheVariants as host_status
@@ -9,9 +9,12 @@ use Rattle.vd_cmd_plan.specs.declared.status.FlowFault.{FlowFault}
 use Rattle.vd_parser.specs.declared.fault.ParseFault.{ParseFault}
 use Rattle.vd_report.specs.declared.fault.ReadFault.{ReadFault}
 use Rattle.vd_resolve.specs.declared.fault.NameFault.{NameFault}
+use Rattle.vd_diag.specs.Remarks.{told}
+use Rattle.vd_diag.specs.declared.remark.Remark.{Remark}
 use Rattle.vd_diag_terminal.specs.Alone.{alone, of_host}
 use Rattle.vd_diag_terminal.specs.Files.{reading_of}
 use Rattle.vd_diag_terminal.specs.Remarks.{IsRemarkOn}
+use Rattle.vd_diag_terminal.specs.Said.{told_of}
 
 -- a status of which no file is read
 pub unread : (words : List (List ℕ)) (s : Status) → ((f : ParseFault) → s ≢ status.Syntax f) → ((f : NameFault) → s ≢ status.Names f) → ((f : FlowFault) → s ≢ status.Flow f) → ((p : LabelledForm) → s ≢ status.NoAssignment p)
@@ -50,3 +53,8 @@ unremarked bytes (status.Spent budget p) a b c d e g h = absurd (e budget p refl
 unremarked bytes (status.InputText f) a b c d e g h = absurd (g f refl)
 unremarked bytes (status.ScheduleText f) a b c d e g h = absurd (h f refl)
 unremarked bytes s a b c d e g h = refl
+
+-- one of which the line is shown
+pub shown_whole : (s : Status) (coloured : Bool) (name bytes : List ℕ) (remark : Remark) → ((f : ReadFault) → s ≢ status.InputText f) → told coloured name bytes remark ≡ told_of s coloured name bytes remark
+shown_whole (status.InputText f) coloured name bytes remark other = absurd (other f refl)
+shown_whole s coloured name bytes remark other = refl

@@ -7,11 +7,10 @@ use Rattle.vd_diag_terminal.specs.DiagBranchesPhrases.{IsBranchRemark}
 use Rattle.vd_constraints.specs.declared.labels.Labels.{Labels}
 use Rattle.vd_cmd_plan.specs.Labelled.{LabelledForm}
 use Rattle.vd_cmd_plan.specs.declared.status.Status.{Status}
-use Rattle.vd_diag.specs.Remarks.{told}
 use Rattle.vd_diag.specs.declared.remark.Remark.{Remark}
 use Rattle.vd_diag_terminal.specs.Programs.{IsAssignmentRemark, IsOfSpace, IsSlotRemark}
 use Rattle.vd_diag_terminal.specs.Remarks.{IsRemarkOn}
-use Rattle.vd_diag_terminal.specs.Said.{IsRemarkTold}
+use Rattle.vd_diag_terminal.specs.Said.{IsRemarkTold, told_of}
 
 -- ---- of a program, and of its space
 
@@ -36,7 +35,7 @@ module _ (form : LabelledForm) (program : NormalForm) (labels : Labels) (same_pr
 -- ---- of a remark as it is printed
 
 module _ (coloured : Bool) (status : Status) (name bytes : List ℕ) (found : Option Remark) where
-  pub of_remark : (remark : Remark) (text : List ℕ) → found ≡ Some remark → IsRemarkOn bytes status found → text ≡ told coloured name bytes remark → IsRemarkTold coloured status name bytes text
+  pub of_remark : (remark : Remark) (text : List ℕ) → found ≡ Some remark → IsRemarkOn bytes status found → text ≡ told_of status coloured name bytes remark → IsRemarkTold coloured status name bytes text
   of_remark remark text same is printed = record { remark = Some remark; is = subst (IsRemarkOn bytes status) same is; printed = printed }
 
   pub of_no_remark : (text : List ℕ) → found ≡ None → IsRemarkOn bytes status found → text ≡ [] → IsRemarkTold coloured status name bytes text

@@ -3,6 +3,7 @@ pub mod Remarks
 pub mod Files
 pub mod Alone
 pub mod Said
+pub mod Secret
 pub mod Saying
 pub mod Phrases
 pub mod FlowSentences

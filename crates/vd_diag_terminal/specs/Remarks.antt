@@ -6,19 +6,25 @@ use Rattle.vd_report.specs.declared.fault.ReadFault.TheVariants as read_fault
 use Rattle.vd_cmd_plan.specs.declared.status.FlowFault.{FlowFault}
 use Rattle.vd_cmd_plan.specs.declared.status.Status.{Status}
 use Rattle.vd_cmd_plan.specs.declared.status.Status.TheVariants as status
-use Rattle.vd_diag.specs.Files.{host_sentence, inputs_sentence, name_at, schedule_sentence}
+use Rattle.vd_diag.specs.Files.{host_sentence, schedule_sentence}
+use Rattle.vd_diag.specs.Inputs.{inputs_sentence, token_at}
 use Rattle.vd_diag.specs.Remarks.{at}
 use Rattle.vd_diag.specs.declared.remark.Remark.{Remark}
 use Rattle.vd_diag_source.specs.Rules.{IsRuleRemark}
 use Rattle.vd_diag_source.specs.SyntaxRemarks.{SaysOfSyntax}
 use Rattle.vd_diag_terminal.specs.Programs.{IsAssignmentRemark, IsSearchRemark, SaysOne}
 
--- ---- of inputs and schedules, which have names of hosts; `has` says what such a file has; running out of memory is no fault of theirs
+-- ---- of inputs and of schedules, which have names of hosts; running out of memory is no fault of theirs
 
-abbrev pub IsTextRemark : List ℕ → List ℕ → ReadFault → Remark → Type 0
-IsTextRemark bytes has (read_fault.Text offset) remark = remark ≡ at offset has
-IsTextRemark bytes has (read_fault.UnknownHost offset) remark = remark ≡ at offset (host_sentence (name_at bytes offset))
-IsTextRemark bytes has read_fault.Memory remark = ⊥
+abbrev pub IsInputsRemark : List ℕ → ReadFault → Remark → Type 0
+IsInputsRemark bytes (read_fault.Text offset) remark = remark ≡ at offset (inputs_sentence (token_at bytes offset))
+IsInputsRemark bytes (read_fault.UnknownHost offset) remark = remark ≡ at offset (host_sentence (token_at bytes offset))
+IsInputsRemark bytes read_fault.Memory remark = ⊥
+
+abbrev pub IsScheduleRemark : List ℕ → ReadFault → Remark → Type 0
+IsScheduleRemark bytes (read_fault.Text offset) remark = remark ≡ at offset schedule_sentence
+IsScheduleRemark bytes (read_fault.UnknownHost offset) remark = remark ≡ at offset (host_sentence (token_at bytes offset))
+IsScheduleRemark bytes read_fault.Memory remark = ⊥
 
 -- ---- of a flow that is not allowed
 
@@ -33,6 +39,6 @@ IsRemarkOn bytes (status.Names fault) remark = SaysOne (IsRuleRemark bytes) faul
 IsRemarkOn bytes (status.Flow fault) remark = remark ≡ Some (remark_of_flow fault)
 IsRemarkOn bytes (status.NoAssignment form) remark = IsAssignmentRemark form remark
 IsRemarkOn bytes (status.Spent budget form) remark = IsSearchRemark budget form remark
-IsRemarkOn bytes (status.InputText fault) remark = SaysOne (IsTextRemark bytes inputs_sentence) fault remark
-IsRemarkOn bytes (status.ScheduleText fault) remark = SaysOne (IsTextRemark bytes schedule_sentence) fault remark
+IsRemarkOn bytes (status.InputText fault) remark = SaysOne (IsInputsRemark bytes) fault remark
+IsRemarkOn bytes (status.ScheduleText fault) remark = SaysOne (IsScheduleRemark bytes) fault remark
 IsRemarkOn bytes status remark = remark ≡ None

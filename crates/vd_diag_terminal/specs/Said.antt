@@ -4,7 +4,8 @@ use Rattle.std.specs.Option.{option_map_or}
 use Rattle.vd_outside.specs.Files.{FilesView, Fetches}
 use Rattle.vd_outside.specs.declared.faults.FetchFault.{FetchFault}
 use Rattle.vd_cmd_plan.specs.declared.status.Status.{Status}
-use Rattle.vd_diag.specs.Remarks.{told}
+use Rattle.vd_cmd_plan.specs.declared.status.Status.TheVariants.{InputText}
+use Rattle.vd_diag.specs.Remarks.{told, told_place}
 use Rattle.vd_diag.specs.declared.fault.TellFault.{TellFault}
 use Rattle.vd_diag.specs.declared.remark.Remark.{Remark}
 use Rattle.vd_diag_terminal.specs.Alone.{alone}
@@ -12,11 +13,16 @@ use Rattle.vd_diag_terminal.specs.Files.{reading_of, word_at}
 use Rattle.vd_diag_terminal.specs.Remarks.{IsRemarkOn}
 use Rattle.vd_diag_terminal.specs.declared.files.Reading.{Reading}
 
+-- a remark as it is printed: of inputs, which are secret, the place and the sentence, and nothing of the line
+abbrev pub told_of : Status → Bool → List ℕ → List ℕ → Remark → List ℕ
+told_of (InputText fault) coloured name bytes remark = told_place coloured name bytes remark
+told_of end coloured name bytes remark = told coloured name bytes remark
+
 -- the remark on the bytes of the file with this name, as it is printed; nothing where there is none
 pub record IsRemarkTold (coloured : Bool) (status : Status) (name bytes text : List ℕ) : Type 0 where
   pub remark : Option Remark
   pub is : IsRemarkOn bytes status remark
-  pub printed : text ≡ option_map_or (told coloured name bytes) remark []
+  pub printed : text ≡ option_map_or (told_of status coloured name bytes) remark []
 
 -- by what its fetch gave: nothing where it gave no bytes
 abbrev pub IsToldOf : Bool → Status → List ℕ → Result (List ℕ) FetchFault → List ℕ → Type 0

@@ -17,5 +17,5 @@ pub use diag_choice::{
     no_assignment_remark, search_sentence, space_for, valid_lists_stand_at_candidates,
 };
 pub use diag_flow::flow_remark;
-pub use laws::faults_are_shown_in_their_files;
+pub use laws::{faults_are_shown_in_their_files, no_secret_is_told};
 pub use telling::{Destination, say_more};

@@ -11,7 +11,7 @@ use crate::programs::{remark_on_assignment, remark_on_search};
 use std::alloc::Global;
 use vd_base::Bytes;
 use vd_cmd_plan::{FlowFault, Status};
-use vd_diag::{Remark, TellFault, host_sentence, inputs_sentence, schedule_sentence};
+use vd_diag::{Remark, TellFault, host_sentence, inputs_sentence, schedule_sentence, token_at};
 use vd_diag_source::{rule_remark, syntax_remark};
 use vd_report::ReadFault;
 use vd_resolve::NameFault;
@@ -26,18 +26,38 @@ fn at(offset: u32, sentence: Bytes) -> Remark
     }
 }
 
-/// The remark on a fault of a file that has names of hosts, and what such a file has.
-fn remark_on_text(
+/// The remark on a fault of inputs: what is wrong with the token that cannot stand where it stands.
+fn remark_on_inputs(
     alloc: Global,
     bytes: &[u8],
     fault: ReadFault,
-    has: &str,
 ) -> Result<Option<Remark>, TellFault>
-    ensures { IfOk result (SaysOne (remarks.IsTextRemark bytes.now has.now) fault) }
+    ensures { IfOk result (SaysOne (remarks.IsInputsRemark bytes.now) fault) }
 {
     match fault {
         ReadFault::Text(offset) => {
-            let sentence = Bytes::from_slice(alloc, has.as_bytes())?;
+            let sentence = Bytes::from_slice(alloc, inputs_sentence(token_at(bytes, offset)))?;
+            Ok(Some(at(offset, sentence)))
+        }
+        ReadFault::UnknownHost(offset) => {
+            let sentence = host_sentence(alloc, bytes, offset)?;
+            Ok(Some(at(offset, sentence)))
+        }
+        ReadFault::Memory => Err(TellFault::Memory),
+    }
+}
+
+/// The remark on a fault of a schedule, and what a schedule has.
+fn remark_on_schedule(
+    alloc: Global,
+    bytes: &[u8],
+    fault: ReadFault,
+) -> Result<Option<Remark>, TellFault>
+    ensures { IfOk result (SaysOne (remarks.IsScheduleRemark bytes.now) fault) }
+{
+    match fault {
+        ReadFault::Text(offset) => {
+            let sentence = Bytes::from_slice(alloc, schedule_sentence().as_bytes())?;
             Ok(Some(at(offset, sentence)))
         }
         ReadFault::UnknownHost(offset) => {
@@ -89,8 +109,8 @@ pub(crate) fn remark_on(
         Status::Flow(fault) => remark_on_flow(alloc, fault),
         Status::NoAssignment(found) => remark_on_assignment(alloc, found),
         Status::Spent(budget, found) => remark_on_search(alloc, found, *budget),
-        Status::InputText(fault) => remark_on_text(alloc, bytes, *fault, inputs_sentence()),
-        Status::ScheduleText(fault) => remark_on_text(alloc, bytes, *fault, schedule_sentence()),
+        Status::InputText(fault) => remark_on_inputs(alloc, bytes, *fault),
+        Status::ScheduleText(fault) => remark_on_schedule(alloc, bytes, *fault),
         _ => Ok(None),
     }
 }

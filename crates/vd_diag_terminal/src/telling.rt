@@ -8,10 +8,10 @@ use crate::alone::alone;
 use crate::files::{Reading, reading_of};
 use crate::remarks::remark_on;
 use crate::words::word_at;
-use std::alloc::Global;
+use std::alloc::{AllocError, Global};
 use vd_base::{Bytes, Texts};
 use vd_cmd_plan::Status;
-use vd_diag::{TellFault, tell};
+use vd_diag::{Remark, TellFault, tell, tell_place};
 use vd_outside::{FetchFault, Files, Sink, write_all};
 
 /// Where standard error goes.
@@ -21,6 +21,23 @@ pub enum Destination {
     File,
     /// To a terminal, with colours or without.
     Terminal { coloured: bool },
+}
+
+/// A remark on the bytes of the file with this name as it is printed: of inputs, which are secret, no line is shown.
+fn print_remark(
+    alloc: Global,
+    coloured: bool,
+    name: &str,
+    bytes: &[u8],
+    status: &Status,
+    remark: &Remark,
+) -> Result<Bytes, AllocError>
+    ensures { IfOk result (λ text. text ≡ texts.told_of status.now coloured name.now bytes.now remark.now) }
+{
+    match status {
+        Status::InputText(_) => tell_place(alloc, coloured, name, bytes, remark),
+        _ => tell(alloc, coloured, name, bytes, remark),
+    }
 }
 
 /// The remark on the bytes of the file with this name, as it is printed; nothing where there is none.
@@ -36,7 +53,7 @@ fn remark_told(
     let found = remark_on(alloc, bytes, status)?;
     match found {
         Some(remark) => {
-            let text = tell(alloc, coloured, name, bytes, &remark)?;
+            let text = print_remark(alloc, coloured, name, bytes, status, &remark)?;
             Ok(text)
         }
         None => Ok(Bytes::new(alloc)),

@@ -108,6 +108,30 @@ pub fn excerpt(
     Ok(text)
 }
 
+/// What is told of an offset of a file whose text is shown to nobody: `FILE:LINE:COLUMN: SENTENCE`.
+pub fn headline(
+    alloc: Global,
+    coloured: bool,
+    file: &str,
+    bytes: &[u8],
+    offset: usize,
+    sentence: &[u8],
+) -> Result<Bytes, AllocError>
+    ensures { IfOk result (λ text. text ≡ excerpts.headline coloured file.now bytes.now offset sentence.now) }
+{
+    let before = shown(alloc, line_before(bytes, offset))?;
+    let mut text = Bytes::new(alloc);
+    push_head(
+        &mut text,
+        coloured,
+        file,
+        line_number(bytes, offset),
+        before.as_str().width() + 1,
+        sentence,
+    )?;
+    Ok(text)
+}
+
 /// Puts the place and the sentence at the end.
 fn push_head(
     text: &mut Bytes,

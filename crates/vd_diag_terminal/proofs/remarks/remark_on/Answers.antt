@@ -17,10 +17,10 @@ pub returns-in-Spent : goal.returns-in-Spent
 returns-in-Spent c = rw c.in-Spent.is c.remark_on_search.ensures
 
 pub returns-in-InputText : goal.returns-in-InputText
-returns-in-InputText c = rw c.in-InputText.is (rw c.inputs_sentence.ensures at c.remark_on_text.ensures)
+returns-in-InputText c = rw c.in-InputText.is c.remark_on_inputs.ensures
 
 pub returns-in-ScheduleText : goal.returns-in-ScheduleText
-returns-in-ScheduleText c = rw c.in-ScheduleText.is (rw c.schedule_sentence.ensures at c.remark_on_text-in-ScheduleText.ensures)
+returns-in-ScheduleText c = rw c.in-ScheduleText.is c.remark_on_schedule.ensures
 
 pub returns-in_default : goal.returns-in_default
 returns-in_default c =
