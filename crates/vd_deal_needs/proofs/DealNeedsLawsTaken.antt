@@ -25,7 +25,7 @@ same_takes_none c r true x y = none_more (c r)
 same_takes_none c r false x y = none_more (c r)
 
 -- an action takes what is read off it
-action_takes : (c : Cursors) (f : Registers) (a : Action) (r : Source) → advanced c (need_of_action f a) r ≡ c r + one_of (source_of a) r
+pub action_takes : (c : Cursors) (f : Registers) (a : Action) (r : Source) → advanced c (need_of_action f a) r ≡ c r + one_of (source_of a) r
 action_takes c f (action.Const q k) r = none_more (c r)
 action_takes c f (action.Copy q x) r = none_more (c r)
 action_takes c f (action.Apply o q x y) r = none_more (c r)

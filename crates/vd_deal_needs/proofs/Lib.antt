@@ -3,6 +3,7 @@ mod Taken
 mod Greatest
 mod DealNeedsLawsTaken
 mod ReadOff
+mod Alone
 mod Countable
 mod Strangers
 mod Measured

@@ -1,9 +1,9 @@
 -- How many items each host takes from each list, read off joint code: a bound on each run, and what each run takes where no branch
 -- takes differently.
-use Rattle.std.specs.Prelude.{◌≡◌, ◌≢◌, ℕ, nat_eq, ◌+◌, ◌-◌, ◌*◌, ◌<◌, if◌then◌else◌, List, Option, Some, None}
+use Rattle.std.specs.Prelude.{◌≡◌, ◌≢◌, ℕ, nat_eq, ◌+◌, ◌-◌, ◌*◌, ◌<◌, if◌then◌else◌, List, [], ◌∷◌, Option, Some, None}
 use Rattle.vd_execution.specs.declared.instructions.Action.{Action}
 use Rattle.vd_execution.specs.declared.instructions.Action.TheVariants as action
-use Rattle.vd_execution.specs.Step.{Source, Inputs, OwnWords, Triples, BitTriples, Pairs, same_source}
+use Rattle.vd_execution.specs.Step.{Source, Inputs, OwnWords, Triples, BitTriples, Pairs, same_source, State, Item, need, next}
 use Rattle.vd_execution.specs.World.{Supply, IsShort, IsStuck}
 use Rattle.vd_execution.specs.Code.{Code, Finished, Then, Send, Recv, Choose, Repeat}
 use Rattle.vd_execution.specs.Joint.{Joint, Done, Do, Msg, If, For, IsTidy, code_of, at_end}
@@ -95,3 +95,19 @@ counts (Repeat q t n body c) r = (n - t) * counts body r + counts c r
 -- Each host can read what it needs off its own program.
 abbrev pub NeedsAreReadOff : Type 0
 NeedsAreReadOff = (j : Joint) (h : ℕ) (r : Source) → IsTidy j → counts (code_of h j) r ≡ takes j h r
+
+-- ---- one host alone, whoever its peers are
+
+-- a host at its start, which has this code to do
+abbrev pub at_start : Code → State
+at_start code = record { pending = code; registers = λ x. 0; cursors = λ r. 0 }
+
+-- a host after a step on each of these words
+abbrev pub stepped : State → List (List ℕ) → State
+stepped m [] = m
+stepped m (xs ∷ words) = stepped (next m xs) words
+
+-- Whatever words a host is given, it is about to take an item from a list only where it has taken fewer than are read off its code.
+abbrev pub NeedsAreEnoughAlone : Type 0
+NeedsAreEnoughAlone = (code : Code) (words : List (List ℕ)) (r : Source) → need (stepped (at_start code) words) ≡ Item r
+    → (stepped (at_start code) words).cursors r < counts code r

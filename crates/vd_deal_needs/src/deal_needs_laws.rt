@@ -1,7 +1,7 @@
 //! How many dealt items and inputs joint code takes, read off its text: enough for every run, and where no branch takes differently
 //! exactly what each run takes. Nothing is computed here: each function's clauses are laws.
 
-ghost use Rattle.vd_deal_needs.specs.DealNeedsLawsNeeds.{AllEnd, NeedsAreEnough, NeedsAreExact, NeedsAreLeast, NeedsAreReadOff, NobodyIsShort};
+ghost use Rattle.vd_deal_needs.specs.DealNeedsLawsNeeds.{AllEnd, NeedsAreEnough, NeedsAreEnoughAlone, NeedsAreExact, NeedsAreLeast, NeedsAreReadOff, NobodyIsShort};
 
 /// Lists of the lengths that are read off joint code suffice, whatever inputs and items are. So under no schedule is a host ever short,
 /// and each schedule that leaves no host able to step leads to the end of the joint run.
@@ -20,4 +20,9 @@ pub fn needs_are_least()
 /// What a host takes is read off its own code too, by the same rules.
 pub fn needs_are_read_off()
     ensures { NeedsAreReadOff }
+{}
+
+/// What is read off a host's own code is enough for it alone: whatever words its peers send, it never takes more from a list.
+pub fn needs_are_enough_alone()
+    ensures { NeedsAreEnoughAlone }
 {}
