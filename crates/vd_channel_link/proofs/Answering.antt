@@ -1,5 +1,5 @@
 -- Hosts that are answered, and those that are turned away.
-use Rattle.std.proofs.Common.{arith, ◌≡◌, ◌∙◌, ◌≤◌, ◌<◌, ◌+◌, ◌-◌, ◌^◌, ℕ, min, IsTrue, List, [], ◌∷◌, ◌++◌, length, ap, sym, refl, subst}
+use Rattle.std.proofs.Common.{arith, ◌≡◌, ◌∙◌, ◌<◌, ℕ, IsTrue, List, [], ◌++◌, take, Ok, ap, sym, refl, subst}
 use Rattle.std.proofs.lemmas.List.{append-nil}
 use Rattle.vd_base.specs.declared.ids.HostId.{HostId}
 use Rattle.vd_outside.specs.Causes.{Rose}
@@ -11,27 +11,28 @@ use Rattle.vd_channel_crypto.specs.Records.{Direction, sealed}
 use Rattle.vd_channel_crypto.specs.declared.hellos.Hello.{Hello}
 use Rattle.vd_channel_crypto.specs.declared.records.Keys.{Keys}
 use Rattle.vd_channel_link.specs.Courses.{IsHungUp}
-use Rattle.vd_channel_link.specs.Meeting.{HasAnswered, HaveMet, IsHeard, IsHelloFault, IsProofFault, SaidNoHello, ProvedNothing, SaysNoMore, head_of}
-use Rattle.vd_channel_link.specs.Outgoing.{Greeted, IsLinkSealed, sealer_of}
+use Rattle.vd_channel_link.specs.Meeting.{HaveMet, IsHeard, IsHelloFault, IsProofFault, SaidNoHello, ProvedNothing, SendsNoMore, TakesHello, head_of}
+use Rattle.vd_channel_link.specs.Outgoing.{IsLinkSealed, sealer_of}
 use Rattle.vd_channel_link.specs.Seals.{IsAnswered, IsKeyFor, IsMet, IsTurnedAway}
 use Rattle.vd_channel_link.specs.Session.{IsFresh}
 use Rattle.vd_channel_link.specs.declared.channel_net.seal.Seal.{Seal}
 use Rattle.vd_channel_link.specs.declared.fault.SealFault.{SealFault}
 use Rattle.vd_channel_link.specs.declared.fault.SealFault.TheVariants as fault
 use Rattle.vd_channel_link.specs.declared.session.Session.{Session}
+use Rattle.vd_channel_link.proofs.Saying.{hello_alone, then_proof}
 use Rattle.vd_channel_link.proofs.Sealed.{greeted_with, greeting_out}
 
-rose_some : (before now : ℕ) → Rose before now → 0 < now
+pub rose_some : (before now : ℕ) → Rose before now → 0 < now
 rose_some before now rose = omega (arith, rose)
 
 abbrev hello_to : Seal → HostId → Hello
 hello_to seal peer = record { id = seal.secrets.id; from = seal.me; to = peer; nonce = nonce_of seal.seed peer.0 seal.tried }
 
 -- who said no hello heard nothing
-pub said_no_hello : (seal : Seal) (peer : HostId) (key : List ℕ) (came left : LinkView) (why : SealFault) → IsKeyFor seal.me.0 seal.secrets peer.0 key
-    → (why ≡ fault.Peer → Rose came.faults left.faults) → (IsTrue left.told → IsHelloFault (head_of seal.secrets.id peer.0 seal.me.0) came.coming why)
-    → (IsTrue left.told → left.sent ≡ came.sent) → IsTurnedAway seal peer.0 came left why
-said_no_hello seal peer key came left why is_key failed refused same = record {
+pub said_no_hello : (seal : Seal) (peer me : HostId) (id key : List ℕ) (came left : LinkView) (why : SealFault) → id ≡ seal.secrets.id → me ≡ seal.me
+    → IsKeyFor seal.me.0 seal.secrets peer.0 key → (why ≡ fault.Peer → Rose came.faults left.faults)
+    → (IsTrue left.told → IsHelloFault (head_of id peer.0 me.0) came.coming why) → (IsTrue left.told → left.sent ≡ came.sent) → IsTurnedAway seal peer.0 came left why
+said_no_hello seal peer me id key came left why id_is me_is is_key failed refused same = record {
   mine = hello_to seal peer;
   id = refl;
   from = refl;
@@ -39,7 +40,10 @@ said_no_hello seal peer key came left why is_key failed refused same = record {
   key = key;
   is_key = is_key;
   counted = λ is. rose_some came.faults left.faults (failed is);
-  stranger = λ told. SaidNoHello (refused told) (same told);
+  stranger = λ told. SaidNoHello
+      (subst (λ (h : HostId). IsHelloFault (head_of seal.secrets.id peer.0 h.0) came.coming why) me_is
+      (subst (λ (i : List ℕ). IsHelloFault (head_of i peer.0 me.0) came.coming why) id_is (refused told)))
+      (same told);
 }
 
 pub nothing_out : (seal : Seal) (peer : HostId) (key : List ℕ) (came left : LinkView) → IsKeyFor seal.me.0 seal.secrets peer.0 key
@@ -63,6 +67,34 @@ failed_behind_hello seal peer key mine theirs came heard left is_key id from to 
   counted = λ is. failed;
   stranger = λ told. ProvedNothing theirs heard.coming (hears told) tt;
 }
+
+-- the hello of who said one
+pub hears : (seal : Seal) (peer me : HostId) (id : List ℕ) (mine theirs : Hello) (came heard : LinkView) → id ≡ seal.secrets.id → me ≡ seal.me → mine.id ≡ seal.secrets.id
+    → mine.from ≡ seal.me → mine.to ≡ peer → TakesHello id peer me came heard (Ok theirs) → IsTrue heard.told → IsHeard mine theirs came.coming heard.coming
+hears seal peer me id mine theirs came heard id_is me_is mine_id from to takes told = record {
+  id_is = takes.id_is ∙ id_is ∙ sym mine_id;
+  from_is = takes.from_is ∙ sym to;
+  to_is = takes.to_is ∙ me_is ∙ sym from;
+  nonce = takes.nonce;
+  came = takes.came told;
+}
+
+-- a part of the own hello went out to it, or the own hello and a part of the own proof
+pub hello_out : (seal : Seal) (peer : HostId) (key : List ℕ) (mine : Hello) (came heard left : LinkView) → IsKeyFor seal.me.0 seal.secrets peer.0 key → mine.id ≡ seal.secrets.id
+    → mine.from ≡ seal.me → mine.to ≡ peer → mine.nonce ≡ nonce_of seal.seed peer.0 seal.tried → (IsTrue heard.told → heard.sent ≡ came.sent)
+    → (IsTrue left.told → IsTrue heard.told) → SendsNoMore (hello_bytes mine) heard left → came.sent ≡ [] → IsLinkSealed (sealer_of seal) left
+hello_out seal peer key mine came heard left is_key id from to nonce same told out unsent =
+    greeting_out (sealer_of seal) (greeted_with seal mine peer.0 key id from (ap (λ (h : HostId). h.0) to) nonce is_key) came left unsent
+    (hello_alone mine key came left
+    (λ t. let so = out t in (so.0, so.1 ∙ ap (λ (l : List ℕ). l ++ take so.0 (hello_bytes mine)) (same (told t)))))
+
+pub proof_out : (seal : Seal) (peer : HostId) (key : List ℕ) (mine theirs : Hello) (own : Direction) (came heard mid left : LinkView) → IsKeyFor seal.me.0 seal.secrets peer.0 key
+    → mine.id ≡ seal.secrets.id → mine.from ≡ seal.me → mine.to ≡ peer → mine.nonce ≡ nonce_of seal.seed peer.0 seal.tried → (IsTrue heard.told → heard.sent ≡ came.sent)
+    → (IsTrue mid.told → IsTrue heard.told) → (IsTrue mid.told → mid.sent ≡ heard.sent ++ hello_bytes mine) → own ≡ link_direction key mine.from.0 (digest_between mine theirs)
+    → (IsTrue left.told → IsTrue mid.told) → SendsNoMore (sealed own 0 []) mid left → came.sent ≡ [] → IsLinkSealed (sealer_of seal) left
+proof_out seal peer key mine theirs own came heard mid left is_key id from to nonce same told hello keys was_told out unsent =
+    greeting_out (sealer_of seal) (greeted_with seal mine peer.0 key id from (ap (λ (h : HostId). h.0) to) nonce is_key) came left unsent
+    (then_proof mine theirs key own came mid left keys was_told (λ t. hello t ∙ ap (λ (l : List ℕ). l ++ hello_bytes mine) (same (told t))) out)
 
 -- who was answered, and then proved that it has the key
 pub meets_answered : (seal : Seal) (tried peer : ℕ) (keys : Keys × Keys) (session : Session) (came now given : LinkView) → IsAnswered seal tried peer keys came now

@@ -1,12 +1,10 @@
 -- What the ledger of a net counts.
-use Rattle.std.proofs.Common.{arith, ◌≡◌, ◌<◌, ◌≤◌, ◌+◌, ◌-◌, ◌^◌, ◌||◌, ◌∙◌, ℕ, min, Bool, true, false, IsTrue, List, [], ◌∷◌, ◌++◌, length, length-append, nat_lt, refl, sym, ap, ap₂}
+use Rattle.std.proofs.Common.{arith, ◌≡◌, ◌<◌, ◌≤◌, ◌+◌, ◌^◌, ◌||◌, ◌∙◌, ℕ, Bool, true, false, List, [], ◌∷◌, ◌++◌, length, length-append, nat_lt, refl, sym, ap}
 use Rattle.std.specs.List.{AllByRecursion, list_any}
 use Rattle.std.proofs.lemmas.Bool.{ltb-false}
-use Rattle.vd_outside.specs.Link.{LinkView}
-use Rattle.vd_channel_link.specs.Session.{SentIsCarried}
 use Rattle.vd_channel_link.specs.declared.session.Session.{Session}
 use Rattle.vd_channel_link.proofs.Sent.{carried_on}
-use Rattle.vd_channel_link.specs.Ledgers.{GreetAlone, GreetsAlone, Happened, NoneGiven, OneBack, OneGiven, UnsentGreetAlone, has_begun, has_sent, nothing_given, with_given, with_returned}
+use Rattle.vd_channel_link.specs.Ledgers.{GreetsAlone, Happened, NoneGiven, OneBack, OneGiven, UnsentGreetAlone, has_begun}
 use Rattle.vd_channel_link.specs.declared.channel_net.ledger.Ledger.{Ledger}
 
 -- whether a link came back over which a record behind the greeting was begun

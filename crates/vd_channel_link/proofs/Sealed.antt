@@ -124,7 +124,7 @@ seals_hangs_up by link before now hangs sealed told unused = at (nat_lt (length 
 -- ---- one link
 
 -- who is met is greeted
-abbrev greeted_by : (seal : Seal) (tried peer : ℕ) (session : Session) (came now : LinkView) → IsMet seal tried peer session came now → Greeted (sealer_of seal)
+abbrev pub greeted_by : (seal : Seal) (tried peer : ℕ) (session : Session) (came now : LinkView) → IsMet seal tried peer session came now → Greeted (sealer_of seal)
 greeted_by seal tried peer session came now met = record {
   mine = met.mine;
   id = met.id;

@@ -1,17 +1,19 @@
 -- What the turns of an accept keep.
-use Rattle.std.proofs.Common.{arith, ◌≡◌, ◌∙◌, ◌≤◌, ◌+◌, ℕ, Bool, false, IsTrue, List, [], ◌∷◌, ◌++◌, length, length-append, Ok, Err, ap, sym, refl, subst}
+use Rattle.std.proofs.Common.{arith, ◌≡◌, ◌∙◌, ◌≤◌, ◌-◌, ◌^◌, ◌+◌, ℕ, true, false, List, [], ◌∷◌, ◌++◌, length, length-append, Result, Ok, Err, IfErr, IfOk, OnOk, ap, ap₂, sym, refl, subst}
 use Rattle.vd_base.specs.declared.faults.CallFault.{CallFault}
+use Rattle.vd_base.specs.declared.faults.CallFault.TheVariants as call_fault
 use Rattle.vd_outside.specs.Link.{LinkView}
 use Rattle.vd_outside.specs.Net.{Accepts, HangsUp, NetView}
 use Rattle.vd_channel_crypto.specs.Hellos.{nonce_of}
 use Rattle.vd_channel_crypto.specs.declared.records.Keys.{Keys}
 use Rattle.vd_channel_link.specs.Courses.{AreWaiting, Course, Ends, Gives, IsHungUp, IsWaiting, Stays}
-use Rattle.vd_channel_link.specs.Outgoing.{IsLinkSealed, IsSealing, Sealer, SealsLinks, sealer_of}
+use Rattle.vd_channel_link.specs.Outgoing.{IsLinkSealed, IsSealing, Sealer, SealsLinks, SealsSession, sealer_of}
 use Rattle.vd_channel_link.specs.Seals.{IsAnswered, IsKeyFor, IsMet, Tries}
-use Rattle.vd_channel_link.specs.Waits.{Awaits, NoneCame, NobodyThere, OneCame, OneTurnedAway, OneWaitsOn, OneProvedNothing, OneMadeRoom, AtOnce, AfterAWait, HangsUpAll, NotGiven, Post, Waiter}
+use Rattle.vd_channel_link.specs.Waits.{Awaits, NoneCame, NobodyThere, OneCame, OneTurnedAway, OneWaitsOn, OneProvedNothing, OneMadeRoom, AtOnce, AfterAWait, AllNumbersUsed, AllTurnsTaken, ComesAfter, GivesUp, HangsUpAll, NoRoom, NotGiven, NotMet, Post, Waiter}
 use Rattle.vd_channel_link.specs.declared.channel_net.answered.Answered.{Answered}
 use Rattle.vd_channel_link.specs.declared.channel_net.seal.Seal.{Seal}
 use Rattle.vd_channel_link.specs.declared.fault.SealFault.{SealFault}
+use Rattle.vd_channel_link.specs.declared.sealed_link.SealedLink.{SealedLink}
 use Rattle.vd_channel_link.specs.declared.session.Session.{Session}
 use Rattle.vd_channel_link.proofs.Sealed.{accepts_unused, came_over, given_sealed, greeted_by, same_sealer, seals_accepts, seals_hangs_up, seals_none, seals_then}
 use Rattle.vd_channel_link.proofs.Tried.{met_later, tries_more, tries_none}
@@ -37,11 +39,13 @@ begins view post seal now same = record {
 
 -- ---- one that waits is looked at
 
-pub waits_on : {L : Type 0} (view : L → LinkView) (post : Post) (start : NetView) (turns : ℕ) (seal : Seal) (now : NetView) (first again : Answered L) (others : List (Answered L))
-    → view again.link ≡ view first.link → (first.ours, first.theirs) ≡ (again.ours, again.theirs)
-    → Course view post start turns seal now (first ∷ others) → Course view post start turns seal now (others ++ again ∷ [])
-waits_on view post start turns seal now first again others same keys course =
+-- its link is another value of the same view
+again_first : {L : Type 0} (view : L → LinkView) (post : Post) (start : NetView) (turns : ℕ) (seal : Seal) (now : NetView) (first again : Answered L) (others : List (Answered L))
+    → view again.link ≡ view first.link → again.ours ≡ first.ours → again.theirs ≡ first.theirs
+    → Course view post start turns seal now (first ∷ others) → Course view post start turns seal now (again ∷ others)
+again_first {L} view post start turns seal now first again others same ours theirs course =
     let f = first_of_all view post seal.tried first others course.waiting course.are in
+    let keys = ap₂ (λ (k o : Keys). (k, o)) (sym ours) (sym theirs) in
     let is : IsWaiting view post seal.tried again f.one = record {
       link = same ∙ f.is.link;
       untold = f.is.untold;
@@ -49,8 +53,27 @@ waits_on view post start turns seal now first again others same keys course =
     } in
     record {
       stays = course.stays;
+      waiting = course.waiting;
+      are = subst (λ (w : List Waiter). AreWaiting view post seal.tried (again ∷ others) w) (sym f.all) (is, f.are);
+      awaits = course.awaits;
+    }
+
+pub looked_at : {L : Type 0} (view : L → LinkView) (post : Post) (start : NetView) (turns : ℕ) (seal : Seal) (before now : NetView) (all others : List (Answered L)) (first again : Answered L)
+    → all ≡ first ∷ others → now ≡ before → view again.link ≡ view first.link → again.ours ≡ first.ours → again.theirs ≡ first.theirs
+    → Course view post start turns seal before all → Course view post start turns seal now (again ∷ others)
+looked_at {L} view post start turns seal before now all others first again is still same ours theirs course =
+    again_first view post start turns seal now first again others same ours theirs
+    (subst (λ (n : NetView). Course view post start turns seal n (first ∷ others)) (sym still)
+    (subst (λ (l : List (Answered L)). Course view post start turns seal before l) is course))
+
+pub waits_on : {L : Type 0} (view : L → LinkView) (post : Post) (start : NetView) (turns : ℕ) (seal : Seal) (now : NetView) (first : Answered L) (others : List (Answered L))
+    → Course view post start turns seal now (first ∷ others) → Course view post start turns seal now (others ++ first ∷ [])
+waits_on view post start turns seal now first others course =
+    let f = first_of_all view post seal.tried first others course.waiting course.are in
+    record {
+      stays = course.stays;
       waiting = f.rest ++ f.one ∷ [];
-      are = one_more view post seal.tried others f.rest again f.one f.are is;
+      are = one_more view post seal.tried others f.rest first f.one f.are f.is;
       awaits = OneWaitsOn turns f.rest now f.one (subst (λ (w : List Waiter). Awaits post start turns w now) f.all course.awaits);
     }
 
@@ -63,8 +86,8 @@ untold_session seal tried peer session came below met untold = record {
   carried = record {
     pieces = [];
     number = met.fresh.next_out;
-    front = λ told. absurd (subst (λ (b : Bool). IsTrue b) untold told);
-    whole = λ sends told. absurd (subst (λ (b : Bool). IsTrue b) untold told);
+    front = λ told. absurd (let never : true ≡ false = sym told ∙ untold in cc);
+    whole = λ sends told. absurd (let never : true ≡ false = sym told ∙ untold in cc);
     told = λ sends. met.fresh.sent;
   };
 }
@@ -139,6 +162,25 @@ not_given view post start turns seal now later answered fault course accepts = r
   waiting = course.waiting;
   are = course.are;
   fails = NotGiven turns now fault course.awaits accepts;
+}
+
+pub no_room : {L : Type 0} (view : L → LinkView) (post : Post) (start : NetView) (turns : ℕ) (seal : Seal) (now : NetView) (answered : List (Answered L))
+    → Course view post start turns seal now answered → Ends view post start seal now answered call_fault.Memory
+no_room view post start turns seal now answered course =
+    record { stays = course.stays; waiting = course.waiting; are = course.are; fails = NoRoom turns course.awaits }
+
+pub numbers_used : {L : Type 0} (view : L → LinkView) (post : Post) (start : NetView) (turns : ℕ) (seal : Seal) (now : NetView) (answered : List (Answered L))
+    → seal.tried ≡ 2 ^ 32 - 1 → Course view post start turns seal now answered → Ends view post start seal now answered call_fault.Failed
+numbers_used view post start turns seal now answered used course =
+    record { stays = course.stays; waiting = course.waiting; are = course.are; fails = AllNumbersUsed turns used course.awaits }
+
+pub turns_taken : {L : Type 0} (view : L → LinkView) (post : Post) (start : NetView) (turns : ℕ) (seal : Seal) (now : NetView) (answered : List (Answered L))
+    → turns ≡ 2 ^ 64 - 1 → Course view post start turns seal now answered → Ends view post start seal now answered call_fault.Failed
+turns_taken view post start turns seal now answered all course = record {
+  stays = course.stays;
+  waiting = course.waiting;
+  are = course.are;
+  fails = AllTurnsTaken (subst (λ (n : ℕ). Awaits post start n course.waiting now) all course.awaits);
 }
 
 -- what is known behind a link that came, and was greeted
@@ -268,3 +310,37 @@ none_left view post tried start now ones left = by left.rest left.are left.hung
     by : (rest : List Waiter) → AreWaiting view post tried [] rest → ((end : NetView) → HangsUpAll rest now end → HangsUpAll ones start end) → HangsUpAll ones start now
     by [] are hung = hung now refl
     by (one ∷ rest) are hung = absurd are
+
+-- ---- an accept that is over
+
+-- whichever way it ended, these wait
+pub record Over {L : Type 0} (view : L → LinkView) (post : Post) (start : NetView) (seal : Seal) (now : NetView) (answered : List (Answered L)) : Type 0 where
+  pub stays : Stays post start seal now
+  pub waiting : List Waiter
+  pub are : AreWaiting view post seal.tried answered waiting
+
+pub was_over : {L : Type 0} (view : L → LinkView) (post : Post) (start : NetView) (seal : Seal) (now : NetView) (answered : List (Answered L)) (result : Result (SealedLink L) CallFault)
+    → IfOk result (λ given. Gives view post start seal now answered given.session (view given.link)) → IfErr result (Ends view post start seal now answered)
+    → Over view post start seal now answered
+was_over view post start seal now answered (Ok given) gives ends = record { stays = gives.stays; waiting = gives.waiting; are = gives.are }
+was_over view post start seal now answered (Err fault) gives ends = record { stays = ends.stays; waiting = ends.waiting; are = ends.are }
+
+pub gives_sealed : {L : Type 0} (view : L → LinkView) (post : Post) (start : NetView) (seal : Seal) (now : NetView) (answered : List (Answered L)) (result : Result (SealedLink L) CallFault)
+    → IfOk result (λ given. Gives view post start seal now answered given.session (view given.link))
+    → IfOk result (λ given. SealsSession (sealer_of post.seal) start given.session (view given.link))
+gives_sealed view post start seal now answered (Ok given) gives = gives.sealed
+gives_sealed view post start seal now answered (Err fault) gives = tt
+
+pub comes_after : {L : Type 0} (view : L → LinkView) (post : Post) (start : NetView) (seal : Seal) (now later : NetView) (answered : List (Answered L)) (result : Result (SealedLink L) CallFault)
+    → IfOk result (λ given. Gives view post start seal now answered given.session (view given.link))
+    → ((at : Post) (tried : ℕ) (ones : List Waiter) → AreWaiting view at tried answered ones → HangsUpAll ones now later) → OnOk result (ComesAfter post start later)
+comes_after view post start seal now later answered (Ok given) gives hung =
+    record { waiting = gives.waiting; net = now; comes = gives.comes; hung_up = hung post seal.tried gives.waiting gives.are }
+comes_after view post start seal now later answered (Err fault) gives hung = tt
+
+pub gave_up : {L : Type 0} (view : L → LinkView) (post : Post) (HasNoKey : Type 0) (start : NetView) (seal : Seal) (now later : NetView) (answered : List (Answered L))
+    (result : Result (SealedLink L) CallFault) → IfErr result (Ends view post start seal now answered)
+    → ((at : Post) (tried : ℕ) (ones : List Waiter) → AreWaiting view at tried answered ones → HangsUpAll ones now later)
+    → IfErr result (GivesUp post HasNoKey seal.tried start later)
+gave_up view post HasNoKey start seal now later answered (Ok given) ends hung = tt
+gave_up view post HasNoKey start seal now later answered (Err fault) ends hung = NotMet ends.waiting now fault ends.fails (hung post seal.tried ends.waiting ends.are)

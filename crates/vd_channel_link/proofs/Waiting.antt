@@ -1,5 +1,6 @@
 -- Hosts that wait at a listener.
-use Rattle.std.proofs.Common.{arith, ◌≡◌, ◌∙◌, ◌≤◌, ◌+◌, ℕ, suc, Bool, false, IsTrue, List, [], ◌∷◌, ◌++◌, length, ap, sym, refl, subst}
+use Rattle.std.specs.List.{remove}
+use Rattle.std.proofs.Common.{arith, ◌≡◌, ◌∙◌, ◌≤◌, ◌<◌, ℕ, suc, true, false, List, [], ◌∷◌, ◌++◌, length, slice_index_or, ap, sym, refl}
 use Rattle.vd_outside.specs.Link.{LinkView}
 use Rattle.vd_channel_crypto.specs.declared.records.Keys.{Keys}
 use Rattle.vd_channel_link.specs.Courses.{AreWaiting, IsWaiting}
@@ -93,4 +94,12 @@ as_many view post tried (first ∷ others) (one ∷ waiting) are = ap suc (as_ma
 
 -- of a link that does not tell its bytes nothing is known to have gone out
 pub untold_sealed : (by : Sealer) (link : LinkView) → link.told ≡ false → IsLinkSealed by link
-untold_sealed by link untold told = absurd (subst (λ (b : Bool). IsTrue b) untold told)
+untold_sealed by link untold told = absurd (let never : true ≡ false = sym told ∙ untold in cc)
+
+-- the first of them is taken out
+pub taken_out : {X : Type 0} (xs rest : List X) (x : X) → 0 < length xs → x ≡ slice_index_or xs 0 x → rest ≡ remove xs 0 → xs ≡ x ∷ rest
+taken_out [] rest x some is more = absurd (omega (arith, some))
+taken_out (y ∷ ys) rest x some is more =
+    let one : y ≡ x = sym is in
+    let others : ys ≡ rest = sym more in
+    cc

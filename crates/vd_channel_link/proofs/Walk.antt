@@ -1,5 +1,5 @@
 -- What the records give that stand at the front of bytes.
-use Rattle.std.proofs.Common.{◌≡◌, ◌∙◌, ◌≤◌, ◌+◌, ◌-◌, ℕ, zero, suc, Bool, true, false, List, [], ◌∷◌, ◌++◌, length, drop, if◌then◌else◌, ap, ap₂, sym, refl, arith, append_assoc, add-zero, length-drop, length-append}
+use Rattle.std.proofs.Common.{◌≡◌, ◌∙◌, ◌≤◌, ◌+◌, ℕ, zero, suc, Bool, true, false, List, [], ◌∷◌, ◌++◌, length, drop, if◌then◌else◌, ap, ap₂, sym, refl, arith, append_assoc, add-zero, length-drop, length-append}
 use Rattle.vd_channel_crypto.specs.Records.{Direction, record_code, sealed}
 use Rattle.vd_channel_crypto.specs.Streams.{key_stream, under}
 use Rattle.vd_channel_link.specs.Taking.{Brings, IsCut}

@@ -1,5 +1,5 @@
 -- What a net keeps of the links that it gave.
-use Rattle.std.specs.Prelude.{◌≡◌, ◌<◌, ◌≤◌, ℕ, ◌+◌, ◌-◌, ◌^◌, min, Bool, false, ◌||◌, IsTrue, List, [], ◌∷◌, ◌++◌, length, nat_lt}
+use Rattle.std.specs.Prelude.{◌≡◌, ◌<◌, ℕ, ◌+◌, ◌-◌, ◌^◌, min, Bool, false, ◌||◌, IsTrue, List, [], ◌∷◌, ◌++◌, length, nat_lt}
 use Rattle.std.specs.List.{AllByRecursion}
 use Rattle.vd_outside.specs.Link.{LinkView}
 use Rattle.vd_channel_link.specs.Session.{IsCarried, IsFirstAlone}

@@ -1,4 +1,3 @@
-use Rattle.std.proofs.Common.{◌<◌}
 use Rattle.vd_channel_link.specs.Courses.{Course}
 use Rattle.vd_channel_link.specs.Waits.{post_of}
 use Rattle.vd_channel_link.proofs.channel_net.accepting.await_peer.Given as goal

@@ -1,14 +1,18 @@
-use Rattle.std.proofs.Common.{refl, ap}
+use Rattle.std.proofs.Common.{ap}
 use Rattle.vd_base.specs.declared.ids.HostId.{HostId}
-use Rattle.vd_channel_link.proofs.Sealed.{greeted_with, greeting_out, seals_hangs_up, seals_none}
+use Rattle.vd_channel_link.specs.Outgoing.{sealer_of}
+use Rattle.vd_channel_link.proofs.Sealed.{greeted_with, greeting_out, seals_hangs_up, seals_none, seals_then}
 use Rattle.vd_channel_link.proofs.channel_net.sealed_net.meet_over.Goals as goal
 
 pub returns-in-Ok-clause-over : goal.returns-in-Ok-clause-over
-returns-in-Ok-clause-over g c unsent = seals_none _ _ _ refl
+returns-in-Ok-clause-over g c unsent = seals_none _ _ _ c.ask.ensures.net
 
 pub returns-in-Err-clause-over : goal.returns-in-Err-clause-over
 returns-in-Err-clause-over g c unsent =
     let hello = c.next_hello-hello.ensures in
     let greeted = greeted_with c.args.seal.now c.next_hello-hello.result c.args.peer.0 c.args.key.now hello.id hello.from (ap (λ (h : HostId). h.0) hello.to) hello.nonce c.requires.key in
-    seals_hangs_up _ (g.N.Link.Link.view c.meet.new.link) _ _ c.hang_up.ensures
-    (λ told unused. greeting_out _ greeted (g.N.Link.Link.view c.args.link) (g.N.Link.Link.view c.meet.new.link) unsent c.meet.ensures.out)
+    let by = sealer_of c.args.seal.now in
+    seals_then by (g.N.Net.view c.args.net.now) (g.N.Net.view c.ask.new.net) (g.N.Net.view c.hang_up.new.self)
+    (seals_none by (g.N.Net.view c.args.net.now) (g.N.Net.view c.ask.new.net) c.ask.ensures.net)
+    (seals_hangs_up by (g.N.Link.Link.view c.ask.new.link) (g.N.Net.view c.ask.new.net) (g.N.Net.view c.hang_up.new.self) c.hang_up.ensures
+    (λ told unused. greeting_out by greeted (g.N.Link.Link.view c.args.link) (g.N.Link.Link.view c.ask.new.link) unsent c.ask.ensures.out))
