@@ -30,6 +30,7 @@ use Rattle.vd_report.specs.Hosts.{host_of}
 use Rattle.vd_cmd_plan.specs.declared.answer.Answer.{Answer}
 use Rattle.vd_cmd_choice.specs.Choice.{IsSelected}
 use Rattle.vd_views.specs.Explained.{IsOfTwo, plan_of}
+use Rattle.vd_views.proofs.Front.{is_alone}
 use Rattle.vd_machine.specs.Dealt.{dealt_count, counts_of}
 use Rattle.vd_views.specs.Files.{tape_of}
 use Rattle.vd_excuse.specs.Short.{short_kind, end_of, TakesNoMore}
@@ -70,7 +71,7 @@ are_asked runs read consistent = record {
 module _ (program : NormalForm) (a : Assignment) (made : IsWellMade program) (numbers : NumbersFit program) (selected : IsSelected program a) (hosts : length program.hosts ≡ 2)
     (free : (x : ℕ) → has_back_end (proto_in a.protocols x) ≡ true) where
   of_two : (l : Labels) → IsAssignment (problem_of program l) a.protocols → IsOfTwo program l a.protocols
-  of_two l valid = record { chosen = record { made = made; numbers = numbers; assignment = valid }; hosts = hosts; free = free }
+  of_two l valid = record { free = record { chosen = record { made = made; numbers = numbers; assignment = valid }; free = free }; hosts = hosts }
 
   -- and with protocols as they are read
   pub seen_two : (l : Labels) → IsAssignment (problem_of program l) a.protocols → (seen : List Proto) → seen ≡ a.protocols → IsOfTwo program l seen
@@ -110,7 +111,7 @@ module _ (program : NormalForm) (a : Assignment) (made : IsWellMade program) (nu
     same_talk : talk program a.protocols runs.first runs.deals (1 - h.0) h.0 ≡ talk program a.protocols runs.second stored (1 - h.0) h.0
     same_talk =
         ap (λ (last : Hosts). words_of ((last (1 - h.0)).sent h.0)) (ends_are runs.first runs.deals)
-        ∙ ap (λ (packets : List (List ℕ)). words_of packets) (x.excuse.explains.view.told (1 - h.0))
+        ∙ ap (λ (packets : List (List ℕ)). words_of packets) ((x.excuse.explains.view h.0 (is_alone h.0)).told (1 - h.0))
         ∙ sym (ap (λ (last : Hosts). words_of ((last (1 - h.0)).sent h.0)) (ends_are runs.second stored))
 
   pub told : (h : HostId) → h.0 < 2 → (runs : Runs) → AreRead 2 runs → IsConsistent runs.deals → (stored : List Deal) → IsExcused program selected.labels a.protocols h runs.first runs.second runs.deals stored

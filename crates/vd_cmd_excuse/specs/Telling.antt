@@ -17,6 +17,7 @@ use Rattle.vd_cmd_plan.specs.declared.status.Status.TheVariants.{Ended}
 use Rattle.vd_cmd_deal.specs.Dealing.{deal_files}
 use Rattle.vd_cmd_labels.specs.Sources.{HoldsSource}
 use Rattle.vd_cmd_choice.specs.Choice.{IsSelected}
+use Rattle.vd_views.specs.Views.{alone}
 use Rattle.vd_views.specs.Explained.{IsOfTwo, plan_of, AgreeFor}
 use Rattle.vd_views.specs.Files.{IsExcuse}
 use Rattle.vd_excuse.specs.Talk.{talk}
@@ -34,7 +35,7 @@ pub record IsExcuseOf (name : List ℕ) (p : NormalForm) (runs : Runs) (out : Li
   pub host : HostId
   pub low : host.0 < 2
   pub named : host_of p.hosts name ≡ Some host.0
-  pub agree : AgreeFor p selected.labels assignment.protocols host runs.first runs.second
+  pub agree : AgreeFor p selected.labels assignment.protocols (alone host.0) runs.first runs.second
   pub deals : List Deal
   pub explain : IsExcuse host.0 (plan_of p assignment.protocols) runs.first runs.second runs.deals deals
   pub files : stored ≡ deal_files out deals

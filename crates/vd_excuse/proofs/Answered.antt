@@ -7,11 +7,15 @@ use Rattle.vd_constraints.specs.declared.labels.Labels.{Labels}
 use Rattle.vd_tape.specs.declared.deal_items.deal.Deal.{Deal}
 use Rattle.vd_tape.specs.declared.deal_items.deal.DealKind.{DealKind}
 use Rattle.vd_tape.specs.Text.{AreDealsOf}
+use Rattle.vd_base.specs.HostSets.{host}
+use Rattle.vd_noninter_protocols.specs.Assigned.{heard_words}
 use Rattle.vd_noninter_protocols.specs.Difference.{view_difference}
 use Rattle.vd_noninter_protocols.proofs.Front.{differs_exactly}
 use Rattle.vd_excuse_walk.specs.declared.equivocation_laws.step.Step.{Step}
 use Rattle.vd_excuse_walk.specs.Walks.{Both}
-use Rattle.vd_views.specs.Explained.{IsOfTwo, plan_of, AgreeFor}
+use Rattle.vd_views.specs.Views.{alone}
+use Rattle.vd_views.specs.Explained.{IsOfTwo, plan_of, input_words, AgreeFor}
+use Rattle.vd_views.proofs.Front.{of_alone}
 use Rattle.vd_views.specs.Files.{tape_of, AreEnough}
 use Rattle.vd_excuse.specs.Short.{short_kind}
 use Rattle.vd_excuse.specs.Claims.{LeadTo}
@@ -30,7 +34,7 @@ module _ (p : NormalForm) (l : Labels) (protocols : List Proto) (of_two : IsOfTw
   -- what is short of the first run
   short_is : walked.short ≡ short_kind (plan_of p protocols) first deals
   short_is =
-      has.short ∙ ap (λ (b : Both). first_short deals b.first) (has.lead h.0 (tape_of first deals) (both_at_start (tape_of first deals) second))
+      has.short ∙ ap (λ (b : Both). first_short deals b.first) (has.lead (alone h.0) (tape_of first deals) (both_at_start (tape_of first deals) second))
 
   pub is_short : (kind : DealKind) → walked.short ≡ Some kind → fault_at p l protocols h first second deals ≡ Some (Short kind)
   is_short kind e = ap (λ (o : Option DealKind). fault_of o (view_difference p l protocols h first second)) (sym short_is ∙ e)
@@ -55,8 +59,12 @@ module _ (p : NormalForm) (l : Labels) (protocols : List Proto) (of_two : IsOfTw
         takes = (short_kinds_are_exact p l protocols of_two first deals).0 none_short;
       }
 
-      agree : AgreeFor p l protocols h first second
-      agree = let k = (differs_exactly p l protocols h first second).0 same in record { words = asked.second_words; own = k.0; heard = k.1 }
+      agree : AgreeFor p l protocols (alone h.0) first second
+      agree = let k = (differs_exactly p l protocols h first second).0 same in record {
+        words = asked.second_words;
+        own = of_alone h.0 (λ g. (i : ℕ) → input_words first g i ≡ input_words second g i) k.0;
+        heard = of_alone h.0 (λ g. heard_words p l protocols (host g) first ≡ heard_words p l protocols (host g) second) k.1;
+      }
 
       are : AreExcused h.0 has.steps first second deals walked.deals
       are = are_excused h.0 has.steps first second deals walked.deals asked.all_deals asked.dealt has.same has.deal

@@ -23,7 +23,9 @@ use Rattle.vd_excuse_walk.specs.Walks.{Both}
 use Rattle.vd_excuse_walk.specs.EquivocationLawsClaims.{explained_end}
 use Rattle.vd_views.specs.Explained.{IsOfTwo, plan_of, input_words, AgreeFor}
 use Rattle.vd_views.specs.Lengths.{IsLongEnough}
-use Rattle.vd_views.proofs.Front.{others_are_explained, excuses_are_as_long}
+use Rattle.vd_views.specs.Views.{alone}
+use Rattle.vd_views.specs.Explained.{IsCoalition}
+use Rattle.vd_views.proofs.Front.{is_alone, one_of_two_looks, others_are_explained, excuses_are_as_long, all_within, seen_item}
 use Rattle.vd_machine.specs.Dealt.{dealt_count, counts_of}
 use Rattle.vd_views.specs.Files.{tape_of, AreEnough, AreAsLong, IsExcuse}
 use Rattle.vd_views.proofs.Front.{past_end, Part, file, are_two_files, IsAsLong, read_files, read_part, first_back, second_back, are_files}
@@ -99,33 +101,39 @@ module _ (x w v u : Part) (long : AreAsLong (file 0 x ∷ file 1 w ∷ []) (file
 
 -- ---- the second deal
 
-module _ (p : NormalForm) (l : Labels) (protocols : List Proto) (of_two : IsOfTwo p l protocols) (h : HostId) (low : h.0 < 2) (first second : List (List ℕ)) (agree : AgreeFor p l protocols h first second) (steps : List Step)
+module _ (p : NormalForm) (l : Labels) (protocols : List Proto) (of_two : IsOfTwo p l protocols) (h : HostId) (low : h.0 < 2) (first second : List (List ℕ)) (agree : AgreeFor p l protocols (alone h.0) first second) (steps : List Step)
     (lead : LeadTo steps (plan_of p protocols)) where
   module _ (x w v u : Part) (enough : AreEnough (plan_of p protocols) first (file 0 x ∷ file 1 w ∷ [])) (stored : AreExcused h.0 steps first second (file 0 x ∷ file 1 w ∷ []) (file 0 v ∷ file 1 u ∷ [])) where
     abbrev t : Tape
     t = tape_of first (file 0 x ∷ file 1 w ∷ [])
 
     abbrev y : Tape
-    y = excused h.0 t (plan_of p protocols) (with_inputs t (input_words second)) fresh fresh
+    y = excused (alone h.0) t (plan_of p protocols) (with_inputs t (input_words second)) fresh fresh
 
-    explained : Explains h.0 (plan_of p protocols) t (input_words second) y
-    explained = others_are_explained p l protocols of_two h low first second t (is_dealt first (file 0 x ∷ file 1 w ∷ []) enough.files) agree
+    together : IsCoalition p protocols (alone h.0)
+    together = one_of_two_looks p l protocols of_two.free of_two.hosts h.0 low
 
-    long : IsLongEnough (counts_of (file 0 x ∷ file 1 w ∷ [])) (plan_of p protocols) y
+    explained : Explains (alone h.0) (plan_of p protocols) t (input_words second) y
+    explained = others_are_explained p l protocols of_two.free (alone h.0) together first second t (is_dealt first (file 0 x ∷ file 1 w ∷ []) enough.files) agree
+
+    long : IsLongEnough (alone h.0) (counts_of (file 0 x ∷ file 1 w ∷ [])) (plan_of p protocols) y
     long =
-        excuses_are_as_long p l protocols of_two h low (input_words second) t y explained (counts_of (file 0 x ∷ file 1 w ∷ []))
-        (record { ends = λ g s i not le. items_past first g (slice_get (file 0 x ∷ file 1 w ∷ []) g) s i not le; takes = enough.takes })
+        excuses_are_as_long p l protocols of_two.free (alone h.0) together (input_words second) t y (is_dealt first (file 0 x ∷ file 1 w ∷ []) enough.files).deal explained (counts_of (file 0 x ∷ file 1 w ∷ []))
+        (record { ends = λ g s i not le. items_past first g (slice_get (file 0 x ∷ file 1 w ∷ []) g) s i not le; takes = λ g s seen. enough.takes g s (seen_item h.0 g s seen) })
 
-    walked : both_after h.0 steps first second (file 0 x ∷ file 1 w ∷ []) ≡ explained_end h.0 t (plan_of p protocols) (both_at_start t second)
-    walked = lead h.0 t (both_at_start t second)
+    reaches : (g : ℕ) (s : Source) → s ≢ Inputs → (joint y (joint_of (plan_of p protocols)) fresh g).cursors s ≤ counts_of (file 0 x ∷ file 1 w ∷ []) g s
+    reaches = all_within p l protocols of_two h.0 low (counts_of (file 0 x ∷ file 1 w ∷ [])) y long
+
+    walked : both_after h.0 steps first second (file 0 x ∷ file 1 w ∷ []) ≡ explained_end (alone h.0) t (plan_of p protocols) (both_at_start t second)
+    walked = lead (alone h.0) t (both_at_start t second)
 
     same : tape_of second (file 0 v ∷ file 1 u ∷ []) ≡ y
     same =
-        stored.same (subst (λ (b : Both). ReachesToo (file 0 x ∷ file 1 w ∷ []) b) (sym walked) long.takes)
+        stored.same (subst (λ (b : Both). ReachesToo (file 0 x ∷ file 1 w ∷ []) b) (sym walked) reaches)
         (subst (λ (b : Both). EndsToo (file 0 x ∷ file 1 w ∷ []) b) (sym walked) long.ends) ∙ ap (λ (b : Both). b.deal) walked
 
-    explains : Explains h.0 (plan_of p protocols) t (input_words second) (tape_of second (file 0 v ∷ file 1 u ∷ []))
-    explains = subst (λ (d : Tape). Explains h.0 (plan_of p protocols) t (input_words second) d) (sym same) explained
+    explains : Explains (alone h.0) (plan_of p protocols) t (input_words second) (tape_of second (file 0 v ∷ file 1 u ∷ []))
+    explains = subst (λ (d : Tape). Explains (alone h.0) (plan_of p protocols) t (input_words second) d) (sym same) explained
 
     files : length second ≤ 2 → AreFiles second (file 0 v ∷ file 1 u ∷ [])
     files few =
@@ -138,9 +146,9 @@ module _ (p : NormalForm) (l : Labels) (protocols : List Proto) (of_two : IsOfTw
         files = files few;
         two = refl;
         takes = λ g s not. subst (λ (n : ℕ). (joint (tape_of second (file 0 v ∷ file 1 u ∷ [])) (joint_of (plan_of p protocols)) fresh g).cursors s ≤ n) (sym (stored.as_long g s))
-            (subst (λ (d : Tape). (joint d (joint_of (plan_of p protocols)) fresh g).cursors s ≤ counts_of (file 0 x ∷ file 1 w ∷ []) g s) (sym same) (long.takes g s not));
+            (subst (λ (d : Tape). (joint d (joint_of (plan_of p protocols)) fresh g).cursors s ≤ counts_of (file 0 x ∷ file 1 w ∷ []) g s) (sym same) (reaches g s not));
       };
-      kept = same_file x w v u stored.as_long first second h.0 low explains.part;
+      kept = same_file x w v u stored.as_long first second h.0 low (explains.part h.0 (is_alone h.0));
       as_long = stored.as_long;
       explains = explains;
     }

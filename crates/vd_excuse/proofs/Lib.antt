@@ -9,7 +9,6 @@ mod Gadgets
 mod Nobody
 mod Trimmed
 mod Plans
-mod Strangers
 mod Short
 mod Excused
 mod Filled

@@ -7,6 +7,7 @@ use Rattle.vd_execution.specs.Acts.{ActsAreWithin}
 use Rattle.vd_execution.specs.Gadgets.{Gadget, Alone, Tells, Shares, BothShare, Opens, Masked, Paired, acts_of_gadget}
 use Rattle.vd_execution.specs.Plans.{Plan, Ends, Then, Branch, Loop, joint_of, PlanIsWithin, PlanIsTidy}
 use Rattle.vd_execution.specs.Text.{flat}
+use Rattle.vd_views.specs.Views.{Coalition}
 use Rattle.vd_views.specs.Plans.{run_turn}
 use Rattle.vd_views.specs.Excused.{turns_again, excused}
 
@@ -50,15 +51,15 @@ pub idle_again : (again : ℕ → Tape → Hosts → Hosts → Tape) (turn : ℕ
 idle_again again turn other idle zero i u w v = refl
 idle_again again turn other idle (suc n) i u w v = idle_again again turn other idle n (suc i) (again i u w v) (turn i w) (other (again i u w v) i v) ∙ idle i u w v
 
-pub no_excuse : (h : ℕ) (t : Tape) (plan : Plan Gadget) (u : Tape) (w v : Hosts) → PlanIsTidy plan → PlanIsWithin [] plan → excused h t plan u w v ≡ u
-no_excuse h t Ends u w v tidy none = refl
-no_excuse h t (Then g rest) u w v tidy none = somebody g none.0
-no_excuse h t (Branch [] first other rest) u w v tidy none =
-    no_excuse h t rest (excused h t other u w v) (joint t (joint_of other) w) (joint (excused h t other u w v) (joint_of other) v) tidy.1.1.1 none.1 ∙ no_excuse h t other u w v tidy.1.1.0 tidy.0.2
-no_excuse h t (Branch (p ∷ ps) first other rest) u w v tidy none = absurd (none.0 p.0 (inl refl))
-no_excuse h t (Loop [] count body rest) u w v tidy none =
-    let again : ℕ → Tape → Hosts → Hosts → Tape = λ i z a b. excused h t body z (turn_begun [] i a) (turn_begun [] i b) in
+pub no_excuse : (K : Coalition) (t : Tape) (plan : Plan Gadget) (u : Tape) (w v : Hosts) → PlanIsTidy plan → PlanIsWithin [] plan → excused K t plan u w v ≡ u
+no_excuse K t Ends u w v tidy none = refl
+no_excuse K t (Then g rest) u w v tidy none = somebody g none.0
+no_excuse K t (Branch [] first other rest) u w v tidy none =
+    no_excuse K t rest (excused K t other u w v) (joint t (joint_of other) w) (joint (excused K t other u w v) (joint_of other) v) tidy.1.1.1 none.1 ∙ no_excuse K t other u w v tidy.1.1.0 tidy.0.2
+no_excuse K t (Branch (p ∷ ps) first other rest) u w v tidy none = absurd (none.0 p.0 (inl refl))
+no_excuse K t (Loop [] count body rest) u w v tidy none =
+    let again : ℕ → Tape → Hosts → Hosts → Tape = λ i z a b. excused K t body z (turn_begun [] i a) (turn_begun [] i b) in
     let y : Tape = turns_again again (run_turn [] body t) (λ z i b. run_turn [] body z i b) count 0 u w v in
-    no_excuse h t rest y (turns (run_turn [] body t) count 0 w) (turns (run_turn [] body y) count 0 v) tidy.1.1.1 none.1
-    ∙ idle_again again (run_turn [] body t) (λ z i b. run_turn [] body z i b) (λ i z a b. no_excuse h t body z (turn_begun [] i a) (turn_begun [] i b) tidy.1.1.0 tidy.0.1) count 0 u w v
-no_excuse h t (Loop (p ∷ ps) count body rest) u w v tidy none = absurd (none.0 p.0 (inl refl))
+    no_excuse K t rest y (turns (run_turn [] body t) count 0 w) (turns (run_turn [] body y) count 0 v) tidy.1.1.1 none.1
+    ∙ idle_again again (run_turn [] body t) (λ z i b. run_turn [] body z i b) (λ i z a b. no_excuse K t body z (turn_begun [] i a) (turn_begun [] i b) tidy.1.1.0 tidy.0.1) count 0 u w v
+no_excuse K t (Loop (p ∷ ps) count body rest) u w v tidy none = absurd (none.0 p.0 (inl refl))

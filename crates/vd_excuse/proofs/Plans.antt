@@ -151,13 +151,13 @@ reads (Loop (p ∷ ps) count body rest) behind steps bs tidy off shut =
 -- ---- what the steps lead to
 
 pub lead_to : WalksExcuse → (plan : Plan Gadget) (lines : List Line) (steps : List Step) → lines ≡ flat (joint_of plan) [] → CanBeStepped plan → steps ≡ (read lines nothing_read).steps → LeadTo steps plan
-lead_to law plan lines steps are can is h t r =
+lead_to law plan lines steps are can is K t r =
     let same : steps ≡ steps_of (trimmed plan) =
     is ∙ ap (λ (l : List Line). (read l nothing_read).steps) are
     ∙ ap (λ (q : Reading). q.steps) (reads plan [] [] [] can.tidy can.read_off (λ k h o. refl)) in
-    ap (λ (l : List Step). both_steps (walks h t l) r) same
-    ∙ law h t (trimmed plan) r
-    ∙ same_end h t plan can.tidy r
+    ap (λ (l : List Step). both_steps (walks K t l) r) same
+    ∙ law K t (trimmed plan) r
+    ∙ same_end K t plan can.tidy r
 
 pub if_ok : {A E : Type 0} {P Q : A → Type 0} (r : Result A E) → ((a : A) → P a → Q a) → IfOk r P → IfOk r Q
 if_ok (Ok a) leads holds = leads a holds

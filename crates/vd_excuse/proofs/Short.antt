@@ -8,12 +8,11 @@ use Rattle.vd_tape.specs.declared.deal_items.deal.DealKind.{DealKind}
 use Rattle.vd_tape.specs.declared.deal_items.deal.DealKind.TheVariants.{Own, Mul, And, Pair}
 use Rattle.vd_execution.specs.Step.{Source, Inputs, OwnWords, Triples, BitTriples, Pairs}
 use Rattle.vd_views.specs.Explained.{IsOfTwo, plan_of}
-use Rattle.vd_views.proofs.Front.{Static, plan_is, static, dealt_zeros}
+use Rattle.vd_views.proofs.Front.{IsStranger, below_two, strangers_take_none}
 use Rattle.vd_machine.specs.Dealt.{counts_of}
 use Rattle.vd_views.specs.Files.{tape_of}
 use Rattle.vd_excuse_walk.specs.Files.{list_of_kind, takes_more, is_short}
 use Rattle.vd_excuse.specs.Short.{list_at, end_of, short_kind, TakesNoMore, ShortKindsAreExact}
-use Rattle.vd_excuse.proofs.Strangers.{IsStranger, none_taken, third_takes_none, stranger_takes_none}
 use Rattle.vd_base.specs.declared.protocols.Proto.{Proto}
 
 neither : (a b : Bool) → a || b ≡ false → (a ≡ false) × (b ≡ false)
@@ -41,9 +40,6 @@ not_more : (count taken : ℕ) → taken ≤ count → nat_lt count taken ≡ fa
 not_more count taken le = grind (arith, nat_tests)
 
 module _ (p : NormalForm) (l : Labels) (protocols : List Proto) (of_two : IsOfTwo p l protocols) (inputs : List (List ℕ)) (deals : List Deal) where
-  fixed : Static (plan_of p protocols)
-  fixed = subst Static (sym (plan_is p l protocols of_two)) (static p l protocols of_two [] _ dealt_zeros)
-
   abbrev Reaches : ℕ → Source → Type 0
   Reaches g s = (end_of (plan_of p protocols) inputs deals g).cursors s ≤ counts_of deals g s
 
@@ -51,10 +47,10 @@ module _ (p : NormalForm) (l : Labels) (protocols : List Proto) (of_two : IsOfTw
   none_reach g s low = omega (arith, low)
 
   third : (g : ℕ) (s : Source) → 2 ≤ g → Reaches g s
-  third g s high = none_reach g s (none_taken g s (third_takes_none g s high) fixed.parts fixed.two (plan_of p protocols) fixed.tidy fixed.within (tape_of inputs deals))
+  third g s high = none_reach g s (strangers_take_none p l protocols of_two g s (inl high) (tape_of inputs deals))
 
   stranger : (g : ℕ) (s : Source) → IsStranger g s → Reaches g s
-  stranger g s strange = none_reach g s (none_taken g s (stranger_takes_none g s strange) fixed.parts fixed.two (plan_of p protocols) fixed.tidy fixed.within (tape_of inputs deals))
+  stranger g s strange = none_reach g s (strangers_take_none p l protocols of_two g s (inr strange) (tape_of inputs deals))
 
   -- what a host shares, by its fellow
   with_fellow : (g : ℕ) (make : ℕ → Source) → ((q : ℕ) → q ≢ 1 - g → IsStranger g (make q)) → Reaches g (make (1 - g)) → (q : ℕ) → Reaches g (make q)
@@ -90,11 +86,6 @@ module _ (p : NormalForm) (l : Labels) (protocols : List Proto) (of_two : IsOfTw
         | inl low ↦ of_four (of_kind Own four.0) (of_kind Mul four.1) (of_kind And four.2) (of_kind Pair four.3) g low s not
         | inr high ↦ third g s high
       ]
-    where
-      below_two : (g : ℕ) → (g < 2) ⊎ (2 ≤ g)
-      below_two zero = inl (omega arith)
-      below_two (suc zero) = inl (omega arith)
-      below_two (suc (suc g)) = inr (omega arith)
 
   not_short : (kind : DealKind) → ((peer : ℕ) → list_of_kind kind peer ≢ Inputs) → TakesNoMore (plan_of p protocols) inputs deals → is_short deals (end_of (plan_of p protocols) inputs deals) kind ≡ false
   not_short kind no_input reach =

@@ -6,6 +6,7 @@ use Rattle.vd_execution.specs.Acts.{run_acts}
 use Rattle.vd_execution.specs.Gadgets.{Gadget, acts_of_gadget}
 use Rattle.vd_execution.specs.Plans.{Plan, Ends, Then, Branch, Loop, joint_of, PlanIsTidy}
 use Rattle.vd_execution.proofs.Front.{runs_first}
+use Rattle.vd_views.specs.Views.{Coalition}
 use Rattle.vd_views.specs.Plans.{run_branch, run_turn}
 use Rattle.vd_views.specs.Excused.{item_again, if_both, turns_again, excused}
 use Rattle.vd_excuse_walk.specs.Walks.{Both}
@@ -80,45 +81,45 @@ again_same one two turn turn' other other' a b c (suc n) i u w v =
     ∙ three_same (turns_again two turn' other' n (suc i)) (one i u w v) (two i u w v) (turn i w) (turn' i w) (other (one i u w v) i v) (other' (two i u w v) i v)
     (a i u w v) (b i w) (ap (λ (q : Tape). other q i v) (a i u w v) ∙ c (two i u w v) i v)
 
-module _ (h : ℕ) (t : Tape) where
-  same_deal : (plan : Plan Gadget) → PlanIsTidy plan → (u : Tape) (w v : Hosts) → excused h t (trimmed plan) u w v ≡ excused h t plan u w v
+module _ (K : Coalition) (t : Tape) where
+  same_deal : (plan : Plan Gadget) → PlanIsTidy plan → (u : Tape) (w v : Hosts) → excused K t (trimmed plan) u w v ≡ excused K t plan u w v
   same_deal Ends tidy u w v = refl
   same_deal (Then g rest) tidy u w v =
-      let y : Tape = item_again h t g u w v in same_deal rest tidy.1 y (run_acts t (acts_of_gadget g) w) (run_acts y (acts_of_gadget g) v)
+      let y : Tape = item_again K t g u w v in same_deal rest tidy.1 y (run_acts t (acts_of_gadget g) w) (run_acts y (acts_of_gadget g) v)
   same_deal (Branch [] first other rest) tidy u w v =
-      let y : Tape = excused h t other u w v in
-      let idle : y ≡ u = no_excuse h t other u w v tidy.1.1.0 tidy.0.2 in
+      let y : Tape = excused K t other u w v in
+      let idle : y ≡ u = no_excuse K t other u w v tidy.1.1.0 tidy.0.2 in
       same_deal rest tidy.1.1.1 u w v
-      ∙ three_same (excused h t rest) u y w (joint t (joint_of other) w) v (joint y (joint_of other) v)
+      ∙ three_same (excused K t rest) u y w (joint t (joint_of other) w) v (joint y (joint_of other) v)
       (sym idle) (sym (no_change other t w tidy.1.1.0 tidy.0.2)) (sym (no_change other y v tidy.1.1.0 tidy.0.2))
   same_deal (Branch (p ∷ ps) first other rest) tidy u w v =
       let b : Bool = is_other (p ∷ ps) w in
       let c : Bool = is_other (p ∷ ps) v in
-      let y : Tape = if_both b c (excused h t (trimmed other) u w v) (excused h t (trimmed first) u w v) u in
-      let z : Tape = if_both b c (excused h t other u w v) (excused h t first u w v) u in
-      let same : y ≡ z = both_same b c _ _ (excused h t other u w v) (excused h t first u w v) u (same_deal other tidy.1.1.0 u w v) (same_deal first tidy.1.0 u w v) in
+      let y : Tape = if_both b c (excused K t (trimmed other) u w v) (excused K t (trimmed first) u w v) u in
+      let z : Tape = if_both b c (excused K t other u w v) (excused K t first u w v) u in
+      let same : y ≡ z = both_same b c _ _ (excused K t other u w v) (excused K t first u w v) u (same_deal other tidy.1.1.0 u w v) (same_deal first tidy.1.0 u w v) in
       same_deal rest tidy.1.1.1 y (run_branch (p ∷ ps) (trimmed first) (trimmed other) t w) (run_branch (p ∷ ps) (trimmed first) (trimmed other) y v)
-      ∙ three_same (excused h t rest) y z (run_branch (p ∷ ps) (trimmed first) (trimmed other) t w) (run_branch (p ∷ ps) first other t w)
+      ∙ three_same (excused K t rest) y z (run_branch (p ∷ ps) (trimmed first) (trimmed other) t w) (run_branch (p ∷ ps) first other t w)
       (run_branch (p ∷ ps) (trimmed first) (trimmed other) y v) (run_branch (p ∷ ps) first other z v)
       same (same_branch p ps first other tidy.1.0 tidy.1.1.0 t w)
       (ap (λ (q : Tape). run_branch (p ∷ ps) (trimmed first) (trimmed other) q v) same ∙ same_branch p ps first other tidy.1.0 tidy.1.1.0 z v)
   same_deal (Loop [] count body rest) tidy u w v =
-      let again : ℕ → Tape → Hosts → Hosts → Tape = λ i z a b. excused h t body z (turn_begun [] i a) (turn_begun [] i b) in
+      let again : ℕ → Tape → Hosts → Hosts → Tape = λ i z a b. excused K t body z (turn_begun [] i a) (turn_begun [] i b) in
       let y : Tape = turns_again again (run_turn [] body t) (λ z i b. run_turn [] body z i b) count 0 u w v in
-      let idle : y ≡ u = idle_again again (run_turn [] body t) (λ z i b. run_turn [] body z i b) (λ i z a b. no_excuse h t body z (turn_begun [] i a) (turn_begun [] i b) tidy.1.1.0 tidy.0.1) count 0 u w v in
+      let idle : y ≡ u = idle_again again (run_turn [] body t) (λ z i b. run_turn [] body z i b) (λ i z a b. no_excuse K t body z (turn_begun [] i a) (turn_begun [] i b) tidy.1.1.0 tidy.0.1) count 0 u w v in
       same_deal rest tidy.1.1.1 u w v
-      ∙ three_same (excused h t rest) u y w (turns (run_turn [] body t) count 0 w) v (turns (run_turn [] body y) count 0 v) (sym idle)
+      ∙ three_same (excused K t rest) u y w (turns (run_turn [] body t) count 0 w) v (turns (run_turn [] body y) count 0 v) (sym idle)
       (sym (idle_turns (run_turn [] body t) (λ i x. no_change body t (turn_begun [] i x) tidy.1.1.0 tidy.0.1) count 0 w))
       (sym (idle_turns (run_turn [] body y) (λ i x. no_change body y (turn_begun [] i x) tidy.1.1.0 tidy.0.1) count 0 v))
   same_deal (Loop (p ∷ ps) count body rest) tidy u w v =
-      let one : ℕ → Tape → Hosts → Hosts → Tape = λ i z a b. excused h t (trimmed body) z (turn_begun (p ∷ ps) i a) (turn_begun (p ∷ ps) i b) in
-      let two : ℕ → Tape → Hosts → Hosts → Tape = λ i z a b. excused h t body z (turn_begun (p ∷ ps) i a) (turn_begun (p ∷ ps) i b) in
+      let one : ℕ → Tape → Hosts → Hosts → Tape = λ i z a b. excused K t (trimmed body) z (turn_begun (p ∷ ps) i a) (turn_begun (p ∷ ps) i b) in
+      let two : ℕ → Tape → Hosts → Hosts → Tape = λ i z a b. excused K t body z (turn_begun (p ∷ ps) i a) (turn_begun (p ∷ ps) i b) in
       let y : Tape = turns_again one (run_turn (p ∷ ps) (trimmed body) t) (λ z i b. run_turn (p ∷ ps) (trimmed body) z i b) count 0 u w v in
       let z : Tape = turns_again two (run_turn (p ∷ ps) body t) (λ z i b. run_turn (p ∷ ps) body z i b) count 0 u w v in
       let same : y ≡ z = again_same one two (run_turn (p ∷ ps) (trimmed body) t) (run_turn (p ∷ ps) body t) (λ z i b. run_turn (p ∷ ps) (trimmed body) z i b) (λ z i b. run_turn (p ∷ ps) body z i b)
       (λ i q a b. same_deal body tidy.1.1.0 q (turn_begun (p ∷ ps) i a) (turn_begun (p ∷ ps) i b)) (λ i x. same_run body tidy.1.1.0 t (turn_begun (p ∷ ps) i x)) (λ q i x. same_run body tidy.1.1.0 q (turn_begun (p ∷ ps) i x)) count 0 u w v in
       same_deal rest tidy.1.1.1 y (turns (run_turn (p ∷ ps) (trimmed body) t) count 0 w) (turns (run_turn (p ∷ ps) (trimmed body) y) count 0 v)
-      ∙ three_same (excused h t rest) y z (turns (run_turn (p ∷ ps) (trimmed body) t) count 0 w) (turns (run_turn (p ∷ ps) body t) count 0 w)
+      ∙ three_same (excused K t rest) y z (turns (run_turn (p ∷ ps) (trimmed body) t) count 0 w) (turns (run_turn (p ∷ ps) body t) count 0 w)
       (turns (run_turn (p ∷ ps) (trimmed body) y) count 0 v) (turns (run_turn (p ∷ ps) body z) count 0 v)
       same (same_turns p ps body tidy.1.1.0 t count 0 w)
       (ap (λ (q : Tape). turns (run_turn (p ∷ ps) (trimmed body) q) count 0 v) same ∙ same_turns p ps body tidy.1.1.0 z count 0 v)
@@ -126,10 +127,10 @@ module _ (h : ℕ) (t : Tape) where
   abbrev both_of : Tape → Hosts → Hosts → Both
   both_of y w v = record { deal = y; first = w; second = v }
 
-  pub same_end : (plan : Plan Gadget) → PlanIsTidy plan → (r : Both) → explained_end h t (trimmed plan) r ≡ explained_end h t plan r
+  pub same_end : (plan : Plan Gadget) → PlanIsTidy plan → (r : Both) → explained_end K t (trimmed plan) r ≡ explained_end K t plan r
   same_end plan tidy r =
-      let y : Tape = excused h t (trimmed plan) r.deal r.first r.second in
-      let z : Tape = excused h t plan r.deal r.first r.second in
+      let y : Tape = excused K t (trimmed plan) r.deal r.first r.second in
+      let z : Tape = excused K t plan r.deal r.first r.second in
       let same : y ≡ z = same_deal plan tidy r.deal r.first r.second in
       ap (λ (q : Tape). both_of q (joint t (joint_of (trimmed plan)) r.first) (joint q (joint_of (trimmed plan)) r.second)) same
       ∙ ap (λ (w : Hosts). both_of z w (joint z (joint_of (trimmed plan)) r.second)) (same_run plan tidy t r.first)

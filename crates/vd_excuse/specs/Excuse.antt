@@ -13,6 +13,7 @@ use Rattle.vd_execution.specs.Plans.{Plan}
 use Rattle.vd_excuse_walk.specs.declared.equivocation_laws.step.Step.{Step}
 use Rattle.vd_noninter_protocols.specs.Difference.{view_difference}
 use Rattle.vd_base.specs.Words.{InputsAreWords}
+use Rattle.vd_views.specs.Views.{alone}
 use Rattle.vd_views.specs.Explained.{IsOfTwo, plan_of, AgreeFor}
 use Rattle.vd_views.specs.Files.{IsExcuse}
 use Rattle.vd_excuse.specs.Short.{short_kind}
@@ -47,7 +48,7 @@ pub record AreAsked (first second : List (List ℕ)) (deals : List Deal) : Type 
 -- no fault is there, and these are the files that explain the second inputs
 pub record IsExcused (p : NormalForm) (l : Labels) (protocols : List Proto) (h : HostId) (first second : List (List ℕ)) (deals stored : List Deal) : Type 0 where
   pub no_fault : fault_at p l protocols h first second deals ≡ None
-  pub agree : AgreeFor p l protocols h first second
+  pub agree : AgreeFor p l protocols (alone h.0) first second
   pub files : stored ≡ excuse_files h.0 (plan_of p protocols) first second deals
   pub excuse : IsExcuse h.0 (plan_of p protocols) first second deals stored
 

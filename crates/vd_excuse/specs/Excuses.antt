@@ -14,6 +14,7 @@ use Rattle.vd_execution.specs.World.{Tape, zeros_of}
 use Rattle.vd_execution.specs.Joint.{fresh}
 use Rattle.vd_execution.specs.Gadgets.{Gadget}
 use Rattle.vd_execution.specs.Plans.{Plan}
+use Rattle.vd_views.specs.Views.{alone}
 use Rattle.vd_views.specs.Contract.{with_inputs}
 use Rattle.vd_views.specs.Excused.{excused}
 use Rattle.vd_excuse_walk.specs.declared.equivocation_laws.step.Step.{Step}
@@ -30,7 +31,7 @@ both_at_start t second = record { deal = with_inputs t (input_words second); fir
 
 -- and after these steps, on lists that are followed by zeros
 abbrev pub both_after : ℕ → List Step → (first second : List (List ℕ)) → List Deal → Both
-both_after h steps first second deals = both_steps (walks h (tape_of first deals) steps) (both_at_start (tape_of first deals) second)
+both_after h steps first second deals = both_steps (walks (alone h) (tape_of first deals) steps) (both_at_start (tape_of first deals) second)
 
 -- the second run takes no item past the end of these lists
 abbrev pub ReachesToo : List Deal → Both → Type 0
@@ -59,7 +60,7 @@ pub record AreExcused (h : ℕ) (steps : List Step) (first second : List (List �
 abbrev pub ExcusedFilesExplain : Type 0
 ExcusedFilesExplain =
     (p : NormalForm) (l : Labels) (protocols : List Proto) → IsOfTwo p l protocols → (h : HostId) → h.0 < 2 → (first second : List (List ℕ)) → length second ≤ 2
-    → AgreeFor p l protocols h first second → (deals stored : List Deal) → AreEnough (plan_of p protocols) first deals
+    → AgreeFor p l protocols (alone h.0) first second → (deals stored : List Deal) → AreEnough (plan_of p protocols) first deals
     → (steps : List Step) → LeadTo steps (plan_of p protocols) → AreExcused h.0 steps first second deals stored
     → IsExcuse h.0 (plan_of p protocols) first second deals stored
 
@@ -87,12 +88,12 @@ files_from z me (d ∷ deals) = file_of z me d ∷ files_from z (me + 1) deals
 -- the files that explain the second inputs
 abbrev pub excuse_files : ℕ → Plan Gadget → (first second : List (List ℕ)) → List Deal → List Deal
 excuse_files h plan first second deals =
-    let t = tape_of first deals in files_from (excused h t plan (with_inputs t (input_words second)) fresh fresh) 0 deals
+    let t = tape_of first deals in files_from (excused (alone h) t plan (with_inputs t (input_words second)) fresh fresh) 0 deals
 
 -- there are no others
 abbrev pub ExcusedFilesAreThese : Type 0
 ExcusedFilesAreThese =
     (p : NormalForm) (l : Labels) (protocols : List Proto) → IsOfTwo p l protocols → (h : HostId) → h.0 < 2 → (first second : List (List ℕ))
-    → AgreeFor p l protocols h first second → (deals stored : List Deal) → AreEnough (plan_of p protocols) first deals
+    → AgreeFor p l protocols (alone h.0) first second → (deals stored : List Deal) → AreEnough (plan_of p protocols) first deals
     → (steps : List Step) → LeadTo steps (plan_of p protocols) → AreExcused h.0 steps first second deals stored
     → stored ≡ excuse_files h.0 (plan_of p protocols) first second deals

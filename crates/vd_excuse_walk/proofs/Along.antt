@@ -1,5 +1,5 @@
 -- Who goes along steps in both runs as lists follows who goes along them in both runs as functions.
-use Rattle.std.proofs.Common.{◌≡◌, ◌≢◌, ℕ, zero, suc, ◌≤◌, Bool, true, false, if◌then◌else◌, nat_eq, List, [], ◌∷◌, map, refl, sym, ap, subst, subst₂, ◌∙◌, arith}
+use Rattle.std.proofs.Common.{◌≡◌, ◌≢◌, ℕ, zero, suc, ◌≤◌, Bool, true, false, if◌then◌else◌, List, [], ◌∷◌, map, refl, sym, ap, subst, subst₂, ◌∙◌, arith}
 use Rattle.vd_base.specs.declared.ids.HostId.{HostId}
 use Rattle.vd_execution.specs.declared.instructions.Act.{Act}
 use Rattle.vd_execution.specs.Step.{Source, Triples, BitTriples, Pairs}
@@ -7,8 +7,9 @@ use Rattle.vd_execution.specs.World.{Tape}
 use Rattle.vd_execution.specs.Gadgets.{BySums, ByXors}
 use Rattle.vd_execution.specs.Joint.{Part as HostPart, Hosts, is_other as other, turn_begun, turns}
 use Rattle.vd_execution.specs.Acts.{run_act}
-use Rattle.vd_views.specs.Excused.{if_both}
-use Rattle.vd_views.proofs.Front.{acts_grow, begun_cursors}
+use Rattle.vd_views.specs.Views.{IsIn, alone}
+use Rattle.vd_views.specs.Excused.{across, if_both}
+use Rattle.vd_views.proofs.Front.{acts_grow, begun_cursors, of_alone}
 use Rattle.vd_excuse_walk.specs.declared.equivocation_laws.step.Operands.{Operands}
 use Rattle.vd_excuse_walk.specs.declared.equivocation_laws.step.Part.{Part}
 use Rattle.vd_excuse_walk.specs.declared.equivocation_laws.step.Hidden.{Hidden}
@@ -16,7 +17,7 @@ use Rattle.vd_excuse_walk.specs.declared.equivocation_laws.step.Hidden.TheVarian
 use Rattle.vd_excuse_walk.specs.declared.equivocation_laws.step.Step.{Step, roll-Step, map-Step, ind-Step}
 use Rattle.vd_excuse_walk.specs.declared.equivocation_laws.step.Step.TheOpen.{Step-F}
 use Rattle.vd_excuse_walk.specs.declared.equivocation_laws.step.Step.TheFolds.{fold-roll-Step}
-use Rattle.vd_excuse_walk.specs.Walks.{Both, other_side, masked_again, paired_again, hidden_again, Walk, run_steps, both_steps, both_begun, step_walk, walk, walks}
+use Rattle.vd_excuse_walk.specs.Walks.{Both, masked_again, paired_again, hidden_again, Walk, run_steps, both_steps, both_begun, step_walk, walk, walks}
 use Rattle.vd_excuse_runs.specs.declared.side.Side.{Side}
 use Rattle.vd_excuse_runs.specs.Sides.{next_triple, next_bits, shared_triple, shared_bits, shared_pair, triple_words, pair_words, with_triple, with_bits, with_pair}
 use Rattle.vd_excuse_runs.specs.Runs.{side_at, put_side, acted, is_other, begun}
@@ -76,25 +77,39 @@ module _ (h : HostId) (t : Tape) (n : ℕ → Source → ℕ) (start : List Side
       (changed_follows h t n start d r k (with_pair h (new h) (side_at d.second k)) (Pairs h.0) ((r.second k).cursors (Pairs h.0)) _ is
       (pairs_changed h t n start apart d r is k (new h) _ (λ known peer at. pairs_item h t n start apart d r is p q host known peer at ∙ sym (pair_made dealt _))))
 
-  either_side : (a b : Bool) (x y z : Walker) (u v w : Tape) (f s : Hosts) → F x (record { deal = u; first = f; second = s }) → F y (record { deal = v; first = f; second = s }) → F z (record { deal = w; first = f; second = s })
-      → F (if a then y else (if b then x else z)) (record { deal = if a then v else (if b then u else w); first = f; second = s })
-  either_side true b x y z u v w f s p q e = q
-  either_side false true x y z u v w f s p q e = p
+  either_side : (a b : Bool) (x y z : Walker) (u v w : Tape) (f s : Hosts) → (a ≡ true → F x (record { deal = u; first = f; second = s })) → (b ≡ true → F y (record { deal = v; first = f; second = s }))
+      → F z (record { deal = w; first = f; second = s }) → F (across a b x y z) (record { deal = across a b u v w; first = f; second = s })
+  either_side true false x y z u v w f s p q e = p refl
+  either_side false true x y z u v w f s p q e = q refl
+  either_side true true x y z u v w f s p q e = e
   either_side false false x y z u v w f s p q e = e
 
-  hidden_follows : (x : Hidden) (d : Walker) (r : Both) → F d r → F (plain.hidden x d) (record { deal = hidden_again h.0 t x r; first = r.first; second = r.second })
+  -- the host that looks is h
+  with_looker : (x : Walker) (made : ℕ → Tape) (f s : Hosts) → F x (record { deal = made h.0; first = f; second = s }) → (g : ℕ) → IsIn (alone h.0) g → F x (record { deal = made g; first = f; second = s })
+  with_looker x made f s p g i = of_alone h.0 (λ k. F x (record { deal = made k; first = f; second = s })) p g i
+
+  hidden_follows : (x : Hidden) (d : Walker) (r : Both) → F d r → F (plain.hidden x d) (record { deal = hidden_again (alone h.0) t x r; first = r.first; second = r.second })
   hidden_follows (Product o q) d r is =
-      let P : ℕ → Type 0 = λ y. F (other_side y o.host.0 q.host.0 (plain.product_hidden o d) (plain.product_hidden q d) d) (record { deal = hidden_again h.0 t (Product o q) r; first = r.first; second = r.second }) in
+      let P : ℕ → Type 0 = λ y.
+      F (across (alone y o.host.0) (alone y q.host.0) (plain.product_hidden q d) (plain.product_hidden o d) d) (record { deal = hidden_again (alone h.0) t (Product o q) r; first = r.first; second = r.second }) in
       subst P (ap (λ (x : HostId). x.0) (sym is.host))
-      (either_side (nat_eq o.host.0 h.0) (nat_eq q.host.0 h.0) _ _ _ _ _ _ r.first r.second (product_follows o d r is) (product_follows q d r is) is)
+      (either_side (alone h.0 o.host.0) (alone h.0 q.host.0) _ _ _ _ _ _ r.first r.second
+      (λ i. with_looker (plain.product_hidden q d) (λ k. masked_again k t BySums q r) r.first r.second (product_follows q d r is) o.host.0 i)
+      (λ i. with_looker (plain.product_hidden o d) (λ k. masked_again k t BySums o r) r.first r.second (product_follows o d r is) q.host.0 i) is)
   hidden_follows (Bits o q) d r is =
-      let P : ℕ → Type 0 = λ y. F (other_side y o.host.0 q.host.0 (plain.bits_hidden o d) (plain.bits_hidden q d) d) (record { deal = hidden_again h.0 t (Bits o q) r; first = r.first; second = r.second }) in
+      let P : ℕ → Type 0 = λ y.
+      F (across (alone y o.host.0) (alone y q.host.0) (plain.bits_hidden q d) (plain.bits_hidden o d) d) (record { deal = hidden_again (alone h.0) t (Bits o q) r; first = r.first; second = r.second }) in
       subst P (ap (λ (x : HostId). x.0) (sym is.host))
-      (either_side (nat_eq o.host.0 h.0) (nat_eq q.host.0 h.0) _ _ _ _ _ _ r.first r.second (bits_follows o d r is) (bits_follows q d r is) is)
+      (either_side (alone h.0 o.host.0) (alone h.0 q.host.0) _ _ _ _ _ _ r.first r.second
+      (λ i. with_looker (plain.bits_hidden q d) (λ k. masked_again k t ByXors q r) r.first r.second (bits_follows q d r is) o.host.0 i)
+      (λ i. with_looker (plain.bits_hidden o d) (λ k. masked_again k t ByXors o r) r.first r.second (bits_follows o d r is) q.host.0 i) is)
   hidden_follows (Word p q) d r is =
-      let P : ℕ → Type 0 = λ y. F (other_side y p.host.0 q.host.0 (plain.word_hidden p q p.host d) (plain.word_hidden p q q.host d) d) (record { deal = hidden_again h.0 t (Word p q) r; first = r.first; second = r.second }) in
+      let P : ℕ → Type 0 = λ y.
+      F (across (alone y p.host.0) (alone y q.host.0) (plain.word_hidden p q q.host d) (plain.word_hidden p q p.host d) d) (record { deal = hidden_again (alone h.0) t (Word p q) r; first = r.first; second = r.second }) in
       subst P (ap (λ (x : HostId). x.0) (sym is.host))
-      (either_side (nat_eq p.host.0 h.0) (nat_eq q.host.0 h.0) _ _ _ _ _ _ r.first r.second (word_follows p q p.host d r is) (word_follows p q q.host d r is) is)
+      (either_side (alone h.0 p.host.0) (alone h.0 q.host.0) _ _ _ _ _ _ r.first r.second
+      (λ i. with_looker (plain.word_hidden p q q.host d) (λ k. paired_again k t p q q.host.0 r) r.first r.second (word_follows p q q.host d r is) p.host.0 i)
+      (λ i. with_looker (plain.word_hidden p q p.host d) (λ k. paired_again k t p q p.host.0 r) r.first r.second (word_follows p q p.host d r is) q.host.0 i) is)
 
   -- ---- steps
 
@@ -136,7 +151,7 @@ module _ (h : HostId) (t : Tape) (n : ℕ → Source → ℕ) (start : List Side
     both = λ d r is. b.both (y.both d) (x.both r) (a.both d r is);
   }
 
-  hide_good : (x : Hidden) → Good (step_walk h.0 t (Step-F.Hide x)) (data_step (Step-F.Hide x))
+  hide_good : (x : Hidden) → Good (step_walk (alone h.0) t (Step-F.Hide x)) (data_step (Step-F.Hide x))
   hide_good x = record {
     grows = λ u w g s. omega arith;
     grows_both = λ r g s. omega arith;
@@ -147,17 +162,18 @@ module _ (h : HostId) (t : Tape) (n : ℕ → Source → ℕ) (start : List Side
     both = λ d r is. hidden_follows x d r is;
   }
     where
-      either_first : (a b : Bool) (x y z : Walker) (f : List Side) → x.first ≡ f → y.first ≡ f → z.first ≡ f → (if a then y else (if b then x else z)).first ≡ f
-      either_first true b x y z f p q e = q
-      either_first false true x y z f p q e = p
+      either_first : (a b : Bool) (x y z : Walker) (f : List Side) → x.first ≡ f → y.first ≡ f → z.first ≡ f → (across a b x y z).first ≡ f
+      either_first true false x y z f p q e = p
+      either_first false true x y z f p q e = q
+      either_first true true x y z f p q e = e
       either_first false false x y z f p q e = e
 
       hidden_first : (x : Hidden) (d : Walker) → (plain.hidden x d).first ≡ d.first
-      hidden_first (Product o q) d = either_first (nat_eq o.host.0 d.host.0) (nat_eq q.host.0 d.host.0) _ _ _ d.first refl refl refl
-      hidden_first (Bits o q) d = either_first (nat_eq o.host.0 d.host.0) (nat_eq q.host.0 d.host.0) _ _ _ d.first refl refl refl
-      hidden_first (Word p q) d = either_first (nat_eq p.host.0 d.host.0) (nat_eq q.host.0 d.host.0) _ _ _ d.first refl refl refl
+      hidden_first (Product o q) d = either_first (alone d.host.0 o.host.0) (alone d.host.0 q.host.0) _ _ _ d.first refl refl refl
+      hidden_first (Bits o q) d = either_first (alone d.host.0 o.host.0) (alone d.host.0 q.host.0) _ _ _ d.first refl refl refl
+      hidden_first (Word p q) d = either_first (alone d.host.0 p.host.0) (alone d.host.0 q.host.0) _ _ _ d.first refl refl refl
 
-  act_good : (a : Act) → Good (step_walk h.0 t (Step-F.Act a)) (data_step (Step-F.Act a))
+  act_good : (a : Act) → Good (step_walk (alone h.0) t (Step-F.Act a)) (data_step (Step-F.Act a))
   act_good a = record {
     grows = λ u w g s. acts_grow u (a ∷ []) w g s;
     grows_both = λ r g s. acts_grow r.deal (a ∷ []) r.second g s;
@@ -350,7 +366,7 @@ module _ (h : HostId) (t : Tape) (n : ℕ → Source → ℕ) (start : List Side
   -- ---- all steps
 
   abbrev M : Type 0
-  M = (s : Step) × Good (walk h.0 t s) (data_walk s)
+  M = (s : Step) × Good (walk (alone h.0) t s) (data_walk s)
 
   abbrev steps_in : List M → List Step
   steps_in = map {B = Step} (λ (m : M). m.0)
@@ -358,31 +374,31 @@ module _ (h : HostId) (t : Tape) (n : ℕ → Source → ℕ) (start : List Side
   abbrev layer : Step-F M → Step-F Step
   layer = map-Step M Step (λ m. m.0)
 
-  all_good : (ms : List M) → Good (all_of (walks h.0 t (steps_in ms))) (all_data (data_walks (steps_in ms)))
+  all_good : (ms : List M) → Good (all_of (walks (alone h.0) t (steps_in ms))) (all_data (data_walks (steps_in ms)))
   all_good [] = none_good
-  all_good (m ∷ ms) = one_good (walk h.0 t m.0) (walks h.0 t (steps_in ms)) (data_walk m.0) (data_walks (steps_in ms)) m.1 (all_good ms)
+  all_good (m ∷ ms) = one_good (walk (alone h.0) t m.0) (walks (alone h.0) t (steps_in ms)) (data_walk m.0) (data_walks (steps_in ms)) m.1 (all_good ms)
 
-  step : (y : Step-F M) → Good (step_walk h.0 t (map-Step Step Walk (walk h.0 t) (layer y))) (data_step (map-Step Step DataWalk data_walk (layer y)))
+  step : (y : Step-F M) → Good (step_walk (alone h.0) t (map-Step Step Walk (walk (alone h.0) t) (layer y))) (data_step (map-Step Step DataWalk data_walk (layer y)))
   step (Step-F.Hide x) = hide_good x
   step (Step-F.Act a) = act_good a
   step (Step-F.Branch ps first other) =
-      branch_good ps (all_of (walks h.0 t (steps_in first))) (all_of (walks h.0 t (steps_in other))) (all_data (data_walks (steps_in first))) (all_data (data_walks (steps_in other))) (all_good first) (all_good other)
+      branch_good ps (all_of (walks (alone h.0) t (steps_in first))) (all_of (walks (alone h.0) t (steps_in other))) (all_data (data_walks (steps_in first))) (all_data (data_walks (steps_in other))) (all_good first) (all_good other)
   step (Step-F.Loop ps count body) =
-      turns_good (λ i. record { run = λ u w. run_steps (walks h.0 t (steps_in body)) u (turn_begun ps i w); both = λ r. both_steps (walks h.0 t (steps_in body)) (both_begun ps i r) })
+      turns_good (λ i. record { run = λ u w. run_steps (walks (alone h.0) t (steps_in body)) u (turn_begun ps i w); both = λ r. both_steps (walks (alone h.0) t (steps_in body)) (both_begun ps i r) })
       (λ i. record { alone = λ run. all_alone (data_walks (steps_in body)) (begun ps i run); both = λ d. all_both (data_walks (steps_in body)) (plain.both_begun ps i d) })
-      (λ i. turn_good ps (all_of (walks h.0 t (steps_in body))) (all_data (data_walks (steps_in body))) (all_good body) i) count 0
+      (λ i. turn_good ps (all_of (walks (alone h.0) t (steps_in body))) (all_data (data_walks (steps_in body))) (all_good body) i) count 0
 
-  step_good : (s : Step) → Good (walk h.0 t s) (data_walk s)
-  step_good = ind-Step (λ s. Good (walk h.0 t s) (data_walk s)) (λ x y is. subst (λ z. Good (walk h.0 t (roll-Step z)) (data_walk (roll-Step z))) is (at_roll y))
+  step_good : (s : Step) → Good (walk (alone h.0) t s) (data_walk s)
+  step_good = ind-Step (λ s. Good (walk (alone h.0) t s) (data_walk s)) (λ x y is. subst (λ z. Good (walk (alone h.0) t (roll-Step z)) (data_walk (roll-Step z))) is (at_roll y))
     where
-      at_roll : (y : Step-F M) → Good (walk h.0 t (roll-Step (layer y))) (data_walk (roll-Step (layer y)))
-      at_roll y = subst₂ Good (sym (fold-roll-Step Walk (step_walk h.0 t) (layer y))) (sym (fold-roll-Step DataWalk data_step (layer y))) (step y)
+      at_roll : (y : Step-F M) → Good (walk (alone h.0) t (roll-Step (layer y))) (data_walk (roll-Step (layer y)))
+      at_roll y = subst₂ Good (sym (fold-roll-Step Walk (step_walk (alone h.0) t) (layer y))) (sym (fold-roll-Step DataWalk data_step (layer y))) (step y)
 
-  steps_good : (steps : List Step) → Good (all_of (walks h.0 t steps)) (all_data (data_walks steps))
+  steps_good : (steps : List Step) → Good (all_of (walks (alone h.0) t steps)) (all_data (data_walks steps))
   steps_good [] = none_good
-  steps_good (s ∷ steps) = one_good (walk h.0 t s) (walks h.0 t steps) (data_walk s) (data_walks steps) (step_good s) (steps_good steps)
+  steps_good (s ∷ steps) = one_good (walk (alone h.0) t s) (walks (alone h.0) t steps) (data_walk s) (data_walks steps) (step_good s) (steps_good steps)
 
-  pub steps_follow : (steps : List Step) (d : Walker) (r : Both) → F d r → F (all_both (data_walks steps) d) (both_steps (walks h.0 t steps) r)
+  pub steps_follow : (steps : List Step) (d : Walker) (r : Both) → F d r → F (all_both (data_walks steps) d) (both_steps (walks (alone h.0) t steps) r)
   steps_follow steps d r is = (steps_good steps).both d r is
 
   -- the lists of the first run stay as they are

@@ -1,5 +1,5 @@
 -- Two runs along the steps of a plan end with the deal that explains.
-use Rattle.std.proofs.Common.{◌≡◌, ℕ, zero, suc, nat_eq, ◌<◌, Bool, true, false, if◌then◌else◌, List, [], ◌∷◌, ◌++◌, map, refl, sym, ap, subst, ◌∙◌, arith, rules}
+use Rattle.std.proofs.Common.{◌≡◌, ℕ, zero, suc, ◌<◌, Bool, true, false, if◌then◌else◌, List, [], ◌∷◌, ◌++◌, map, refl, sym, ap, subst, ◌∙◌, arith, rules}
 use Rattle.vd_execution.specs.declared.instructions.Act.{Act}
 use Rattle.vd_execution.specs.Step.{Source, Pairs}
 use Rattle.vd_execution.specs.World.{Tape}
@@ -8,9 +8,10 @@ use Rattle.vd_execution.specs.Acts.{run_acts}
 use Rattle.vd_execution.specs.Gadgets.{BySums, ByXors, source_of, Gadget, Alone, Tells, Shares, BothShare, Opens, Masked, Paired, acts_of_gadget}
 use Rattle.vd_execution.specs.Plans.{Plan, Ends, Then, Branch, Loop, joint_of}
 use Rattle.vd_execution.proofs.Front.{runs_first}
+use Rattle.vd_views.specs.Views.{Coalition}
 use Rattle.vd_views.specs.Hiding.{TakenAlike}
 use Rattle.vd_views.specs.Plans.{run_branch, run_turn}
-use Rattle.vd_views.specs.Excused.{with_item, item_again, if_both, turns_again, excused}
+use Rattle.vd_views.specs.Excused.{with_item, across, item_again, if_both, turns_again, excused}
 use Rattle.vd_views.proofs.Front.{acts_grow, acts_frame, Grows, HasFrame, before, frame_after, turns_grow, turns_frame, branch_grows, branch_frame, joint_grows, joint_frame, changed_elsewhere, begun_cursors, run_turn_grows}
 use Rattle.vd_excuse_walk.specs.declared.equivocation_laws.step.Hidden.{Hidden}
 use Rattle.vd_excuse_walk.specs.declared.equivocation_laws.step.Hidden.TheVariants.{Product, Bits, Word}
@@ -32,25 +33,25 @@ changed_taken u v k s item g r i low =
     (λ here this at. let P : ℕ → Type 0 = λ x. i < (v x).cursors r in let Q : Source → Type 0 = λ x. i < (v k).cursors x in
     let less : i < (v k).cursors s = subst Q this (subst P here low) in omega (arith, less, at))
 
-either_taken : (u : Tape) (v : Hosts) (b : Bool) (y z : Tape) → TakenAlike v u y → TakenAlike v u z → TakenAlike v u (if b then y else z)
-either_taken u v true y z p q = p
-either_taken u v false y z p q = q
-
 itself_taken : (u : Tape) (v : Hosts) → TakenAlike v u u
 itself_taken u v g s i low = refl
 
-item_taken : (h : ℕ) (t : Tape) (g : Gadget) (u : Tape) (w v : Hosts) → TakenAlike v u (item_again h t g u w v)
-item_taken h t (Alone g a) u w v = itself_taken u v
-item_taken h t (Tells a said b heard) u w v = itself_taken u v
-item_taken h t (Shares a r b heard) u w v = itself_taken u v
-item_taken h t (BothShare a r heard b q heard_b) u w v = itself_taken u v
-item_taken h t (Opens sharing a x b y heard) u w v = itself_taken u v
-item_taken h t (Masked sharing m n) u w v =
-    either_taken u v (nat_eq m.host.0 h) _ _ (changed_taken u v n.host.0 (source_of sharing h) _)
-    (either_taken u v (nat_eq n.host.0 h) _ _ (changed_taken u v m.host.0 (source_of sharing h) _) (itself_taken u v))
-item_taken h t (Paired p q) u w v =
-    either_taken u v (nat_eq p.host.0 h) _ _ (changed_taken u v q.host.0 (Pairs h) _)
-    (either_taken u v (nat_eq q.host.0 h) _ _ (changed_taken u v p.host.0 (Pairs h) _) (itself_taken u v))
+across_taken : (u : Tape) (v : Hosts) (a b : Bool) (y z : Tape) → TakenAlike v u y → TakenAlike v u z → TakenAlike v u (across a b y z u)
+across_taken u v true false y z p q = p
+across_taken u v false true y z p q = q
+across_taken u v true true y z p q = itself_taken u v
+across_taken u v false false y z p q = itself_taken u v
+
+item_taken : (K : Coalition) (t : Tape) (g : Gadget) (u : Tape) (w v : Hosts) → TakenAlike v u (item_again K t g u w v)
+item_taken K t (Alone g a) u w v = itself_taken u v
+item_taken K t (Tells a said b heard) u w v = itself_taken u v
+item_taken K t (Shares a r b heard) u w v = itself_taken u v
+item_taken K t (BothShare a r heard b q heard_b) u w v = itself_taken u v
+item_taken K t (Opens sharing a x b y heard) u w v = itself_taken u v
+item_taken K t (Masked sharing m n) u w v =
+    across_taken u v (K m.host.0) (K n.host.0) _ _ (changed_taken u v n.host.0 (source_of sharing m.host.0) _) (changed_taken u v m.host.0 (source_of sharing n.host.0) _)
+item_taken K t (Paired p q) u w v =
+    across_taken u v (K p.host.0) (K q.host.0) _ _ (changed_taken u v q.host.0 (Pairs p.host.0) _) (changed_taken u v p.host.0 (Pairs q.host.0) _)
 
 acts_grown : (xs : List Act) → Grows (λ u v. run_acts u xs v)
 acts_grown xs u v g s = acts_grow u xs v g s
@@ -58,19 +59,19 @@ acts_grown xs u v g s = acts_grow u xs v g s
 acts_framed : (xs : List Act) → HasFrame (λ u v. run_acts u xs v)
 acts_framed xs u y v k = acts_frame u y xs v k
 
-module _ (h : ℕ) (t : Tape) where
+module _ (K : Coalition) (t : Tape) where
   -- ---- what each step does
 
-  walk_hide : (x : Hidden) → walk h t (Hide x) ≡ step_walk h t (Step-F.Hide x)
+  walk_hide : (x : Hidden) → walk K t (Hide x) ≡ step_walk K t (Step-F.Hide x)
   walk_hide x = search (rules, the_lemmas)
 
-  walk_act : (a : Act) → walk h t (ActStep a) ≡ step_walk h t (Step-F.Act a)
+  walk_act : (a : Act) → walk K t (ActStep a) ≡ step_walk K t (Step-F.Act a)
   walk_act a = search (rules, the_lemmas)
 
-  walk_branch : (ps : List Part) (first other : List Step) → walk h t (BranchStep ps first other) ≡ step_walk h t (Step-F.Branch ps (walks h t first) (walks h t other))
+  walk_branch : (ps : List Part) (first other : List Step) → walk K t (BranchStep ps first other) ≡ step_walk K t (Step-F.Branch ps (walks K t first) (walks K t other))
   walk_branch ps first other = search (rules, the_lemmas)
 
-  walk_loop : (ps : List Part) (count : ℕ) (body : List Step) → walk h t (LoopStep ps count body) ≡ step_walk h t (Step-F.Loop ps count (walks h t body))
+  walk_loop : (ps : List Part) (count : ℕ) (body : List Step) → walk K t (LoopStep ps count body) ≡ step_walk K t (Step-F.Loop ps count (walks K t body))
   walk_loop ps count body = search (rules, the_lemmas)
 
   both_first : (x y : Walk) → x ≡ y → (xs : List Walk) (r : Both) → both_steps (x ∷ xs) r ≡ both_steps xs (y.both r)
@@ -114,9 +115,9 @@ module _ (h : ℕ) (t : Tape) where
   -- ---- a gadget
 
   abbrev W : List Step → List Walk
-  W = walks h t
+  W = walks K t
 
-  after_hidden : (g : Gadget) (xs : List Step) (r : Both) → both_steps (W (map Hide (hidden_by g) ++ xs)) r ≡ both_steps (W xs) (states (item_again h t g r.deal r.first r.second) r.first r.second)
+  after_hidden : (g : Gadget) (xs : List Step) (r : Both) → both_steps (W (map Hide (hidden_by g) ++ xs)) r ≡ both_steps (W xs) (states (item_again K t g r.deal r.first r.second) r.first r.second)
   after_hidden (Alone g a) xs r = refl
   after_hidden (Tells a said b heard) xs r = refl
   after_hidden (Shares a q b heard) xs r = refl
@@ -132,15 +133,15 @@ module _ (h : ℕ) (t : Tape) where
       both_first _ _ (walk_act a) (W (map ActStep acts ++ xs)) (states y w v) ∙ after_acts acts xs y (run_acts t (a ∷ []) w) (run_acts y (a ∷ []) v)
 
   abbrev gone : Gadget → Both → Both
-  gone g r = let y : Tape = item_again h t g r.deal r.first r.second in states y (run_acts t (acts_of_gadget g) r.first) (run_acts y (acts_of_gadget g) r.second)
+  gone g r = let y : Tape = item_again K t g r.deal r.first r.second in states y (run_acts t (acts_of_gadget g) r.first) (run_acts y (acts_of_gadget g) r.second)
 
   after_gadget : (g : Gadget) (xs : List Step) (r : Both) → both_steps (W (map Hide (hidden_by g) ++ (map ActStep (acts_of_gadget g) ++ xs))) r ≡ both_steps (W xs) (gone g r)
   after_gadget g xs r =
       after_hidden g (map ActStep (acts_of_gadget g) ++ xs) r
-      ∙ after_acts (acts_of_gadget g) xs (item_again h t g r.deal r.first r.second) r.first r.second
+      ∙ after_acts (acts_of_gadget g) xs (item_again K t g r.deal r.first r.second) r.first r.second
 
-  gadget_follows : (g : Gadget) (r : Both) → Follows (item_again h t g) (λ u w. run_acts u (acts_of_gadget g) w) r (gone g r)
-  gadget_follows g r = record { deal = refl; first = refl; second = refl; taken = item_taken h t g r.deal r.first r.second }
+  gadget_follows : (g : Gadget) (r : Both) → Follows (item_again K t g) (λ u w. run_acts u (acts_of_gadget g) w) r (gone g r)
+  gadget_follows g r = record { deal = refl; first = refl; second = refl; taken = item_taken K t g r.deal r.first r.second }
 
   -- ---- one run alone
 
@@ -193,13 +194,13 @@ module _ (h : ℕ) (t : Tape) where
       (if c then run_steps (W (steps_of other)) r.deal r.second else run_steps (W (steps_of first)) r.deal r.second))
 
   record Parts (ps : List Part) (first other : Plan Gadget) (b c : Bool) (r z : Both) : Type 0 where
-    deal : z.deal ≡ if_both b c (excused h t other r.deal r.first r.second) (excused h t first r.deal r.first r.second) r.deal
+    deal : z.deal ≡ if_both b c (excused K t other r.deal r.first r.second) (excused K t first r.deal r.first r.second) r.deal
     one : z.first ≡ (if b then joint t (joint_of other) r.first else joint t (joint_of first) r.first)
     two : z.second ≡ (if c then joint z.deal (joint_of other) r.second else joint z.deal (joint_of first) r.second)
     taken : TakenAlike r.second r.deal z.deal
 
   parts : (ps : List Part) (first other : Plan Gadget) (b c : Bool) (r of_first of_other : Both)
-      → Follows (excused h t first) (λ u w. joint u (joint_of first) w) r of_first → Follows (excused h t other) (λ u w. joint u (joint_of other) w) r of_other
+      → Follows (excused K t first) (λ u w. joint u (joint_of first) w) r of_first → Follows (excused K t other) (λ u w. joint u (joint_of other) w) r of_other
       → Parts ps first other b c r (parting ps first other b c of_first of_other r)
   parts ps first other true true r of_first of_other e f = record { deal = f.deal; one = f.first; two = f.second; taken = f.taken }
   parts ps first other false false r of_first of_other e f = record { deal = e.deal; one = e.first; two = e.second; taken = e.taken }
@@ -207,12 +208,12 @@ module _ (h : ℕ) (t : Tape) where
   parts ps first other false true r of_first of_other e f = record { deal = refl; one = alone first t r.first; two = alone other r.deal r.second; taken = itself_taken r.deal r.second }
 
   abbrev branch_again : List Part → Plan Gadget → Plan Gadget → Tape → Hosts → Hosts → Tape
-  branch_again ps first other u w v = if_both (is_other ps w) (is_other ps v) (excused h t other u w v) (excused h t first u w v) u
+  branch_again ps first other u w v = if_both (is_other ps w) (is_other ps v) (excused K t other u w v) (excused K t first u w v) u
 
   branch_follows : (ps : List Part) (first other : Plan Gadget) (r : Both)
-      → Follows (excused h t first) (λ u w. joint u (joint_of first) w) r (both_steps (W (steps_of first)) r)
-      → Follows (excused h t other) (λ u w. joint u (joint_of other) w) r (both_steps (W (steps_of other)) r)
-      → Follows (branch_again ps first other) (run_branch ps first other) r (both_either h t ps (W (steps_of first)) (W (steps_of other)) r)
+      → Follows (excused K t first) (λ u w. joint u (joint_of first) w) r (both_steps (W (steps_of first)) r)
+      → Follows (excused K t other) (λ u w. joint u (joint_of other) w) r (both_steps (W (steps_of other)) r)
+      → Follows (branch_again ps first other) (run_branch ps first other) r (both_either K t ps (W (steps_of first)) (W (steps_of other)) r)
   branch_follows ps first other r e f =
       let p = parts ps first other (is_other ps r.first) (is_other ps r.second) r (both_steps (W (steps_of first)) r) (both_steps (W (steps_of other)) r) e f in
       record { deal = p.deal; first = p.one; second = p.two; taken = p.taken }
@@ -229,13 +230,13 @@ module _ (h : ℕ) (t : Tape) where
   run_turn_framed ps body i = frame_after (λ u x. turn_begun ps i x) (λ u x. joint u (joint_of body) x) (joint_grows (joint_of body)) (λ u y v k. refl) (joint_frame (joint_of body))
 
   abbrev turn_again : List Part → Plan Gadget → ℕ → Tape → Hosts → Hosts → Tape
-  turn_again ps body i u w v = excused h t body u (turn_begun ps i w) (turn_begun ps i v)
+  turn_again ps body i u w v = excused K t body u (turn_begun ps i w) (turn_begun ps i v)
 
   abbrev loop_again : List Part → Plan Gadget → ℕ → ℕ → Tape → Hosts → Hosts → Tape
-  loop_again ps body n i u w v = turns_again (λ i z a b. excused h t body z (turn_begun ps i a) (turn_begun ps i b)) (run_turn ps body t) (λ z i b. run_turn ps body z i b) n i u w v
+  loop_again ps body n i u w v = turns_again (λ i z a b. excused K t body z (turn_begun ps i a) (turn_begun ps i b)) (run_turn ps body t) (λ z i b. run_turn ps body z i b) n i u w v
 
   turn_follows : (ps : List Part) (body : Plan Gadget) (i : ℕ) (r : Both)
-      → Follows (excused h t body) (λ u w. joint u (joint_of body) w) (both_begun ps i r) (both_steps (W (steps_of body)) (both_begun ps i r))
+      → Follows (excused K t body) (λ u w. joint u (joint_of body) w) (both_begun ps i r) (both_steps (W (steps_of body)) (both_begun ps i r))
       → Follows (turn_again ps body i) (λ u w. run_turn ps body u i w) r (both_steps (W (steps_of body)) (both_begun ps i r))
   turn_follows ps body i r e = record {
     deal = e.deal;
@@ -245,7 +246,7 @@ module _ (h : ℕ) (t : Tape) where
   }
 
   loop_follows : (ps : List Part) (body : Plan Gadget)
-      → ((r : Both) → Follows (excused h t body) (λ u w. joint u (joint_of body) w) r (both_steps (W (steps_of body)) r))
+      → ((r : Both) → Follows (excused K t body) (λ u w. joint u (joint_of body) w) r (both_steps (W (steps_of body)) r))
       → (n i : ℕ) (r : Both) → Follows (loop_again ps body n i) (λ u w. turns (run_turn ps body u) n i w) r (turns (λ i z. both_steps (W (steps_of body)) (both_begun ps i z)) n i r)
   loop_follows ps body ih zero i r = record { deal = refl; first = refl; second = refl; taken = itself_taken r.deal r.second }
   loop_follows ps body ih (suc n) i r =
@@ -263,29 +264,29 @@ module _ (h : ℕ) (t : Tape) where
   -- ---- plans
 
   abbrev PlanFollows : Plan Gadget → Type 0
-  PlanFollows plan = (r : Both) → Follows (excused h t plan) (λ u w. joint u (joint_of plan) w) r (both_steps (W (steps_of plan)) r)
+  PlanFollows plan = (r : Both) → Follows (excused K t plan) (λ u w. joint u (joint_of plan) w) r (both_steps (W (steps_of plan)) r)
 
   follows : (plan : Plan Gadget) → PlanFollows plan
   follows Ends r = record { deal = refl; first = refl; second = refl; taken = itself_taken r.deal r.second }
   follows (Then g rest) r =
       let z : Both = gone g r in
       let x : Both = both_steps (W (steps_of rest)) z in
-      let one = then_follows (item_again h t g) (excused h t rest) (λ u w. run_acts u (acts_of_gadget g) w) (λ u w. joint u (joint_of rest) w)
+      let one = then_follows (item_again K t g) (excused K t rest) (λ u w. run_acts u (acts_of_gadget g) w) (λ u w. joint u (joint_of rest) w)
       (acts_grown (acts_of_gadget g)) (acts_framed (acts_of_gadget g)) r z x (gadget_follows g r) (follows rest z) in
-      let named = renamed (λ u w v. excused h t rest (item_again h t g u w v) (run_acts t (acts_of_gadget g) w) (run_acts (item_again h t g u w v) (acts_of_gadget g) v)) (excused h t (Then g rest))
+      let named = renamed (λ u w v. excused K t rest (item_again K t g u w v) (run_acts t (acts_of_gadget g) w) (run_acts (item_again K t g u w v) (acts_of_gadget g) v)) (excused K t (Then g rest))
       (λ u w. joint u (joint_of rest) (run_acts u (acts_of_gadget g) w)) (λ u w. joint u (joint_of (Then g rest)) w) r x (λ u w v. refl) (λ u w. runs_first u (acts_of_gadget g) (joint_of rest) w) one in
-      let P : Both → Type 0 = λ q. Follows (excused h t (Then g rest)) (λ u w. joint u (joint_of (Then g rest)) w) r q in
+      let P : Both → Type 0 = λ q. Follows (excused K t (Then g rest)) (λ u w. joint u (joint_of (Then g rest)) w) r q in
       subst P (sym (after_gadget g (steps_of rest) r)) named
   follows (Branch ps first other rest) r =
-      let z : Both = both_either h t ps (W (steps_of first)) (W (steps_of other)) r in
-      let P : Both → Type 0 = λ q. Follows (excused h t (Branch ps first other rest)) (λ u w. joint u (joint_of (Branch ps first other rest)) w) r q in
-      subst P (sym (both_first _ _ (walk_branch ps (steps_of first) (steps_of other)) (W (steps_of rest)) r)) (then_follows (branch_again ps first other) (excused h t rest) (run_branch ps first other) (λ u w. joint u (joint_of rest) w)
+      let z : Both = both_either K t ps (W (steps_of first)) (W (steps_of other)) r in
+      let P : Both → Type 0 = λ q. Follows (excused K t (Branch ps first other rest)) (λ u w. joint u (joint_of (Branch ps first other rest)) w) r q in
+      subst P (sym (both_first _ _ (walk_branch ps (steps_of first) (steps_of other)) (W (steps_of rest)) r)) (then_follows (branch_again ps first other) (excused K t rest) (run_branch ps first other) (λ u w. joint u (joint_of rest) w)
       (run_branch_grows ps first other) (run_branch_framed ps first other) r z (both_steps (W (steps_of rest)) z)
       (branch_follows ps first other r (follows first r) (follows other r)) (follows rest z))
   follows (Loop ps count body rest) r =
       let z : Both = turns (λ i x. both_steps (W (steps_of body)) (both_begun ps i x)) count 0 r in
-      let P : Both → Type 0 = λ q. Follows (excused h t (Loop ps count body rest)) (λ u w. joint u (joint_of (Loop ps count body rest)) w) r q in
-      subst P (sym (both_first _ _ (walk_loop ps count (steps_of body)) (W (steps_of rest)) r)) (then_follows (loop_again ps body count 0) (excused h t rest) (λ u w. turns (run_turn ps body u) count 0 w) (λ u w. joint u (joint_of rest) w)
+      let P : Both → Type 0 = λ q. Follows (excused K t (Loop ps count body rest)) (λ u w. joint u (joint_of (Loop ps count body rest)) w) r q in
+      subst P (sym (both_first _ _ (walk_loop ps count (steps_of body)) (W (steps_of rest)) r)) (then_follows (loop_again ps body count 0) (excused K t rest) (λ u w. turns (run_turn ps body u) count 0 w) (λ u w. joint u (joint_of rest) w)
       (run_loop_grows ps body count) (run_loop_framed ps body count) r z (both_steps (W (steps_of rest)) z)
       (loop_follows ps body (follows body) count 0 r) (follows rest z))
 
@@ -293,8 +294,8 @@ module _ (h : ℕ) (t : Tape) where
   both_are z y w v e f k = ap (λ (x : Tape). states x z.first z.second) e ∙ ap (λ (x : Hosts). states y x z.second) f ∙ ap (λ (x : Hosts). states y w x) k
 
 pub walks_excuse : WalksExcuse
-walks_excuse h t plan r =
-    let f = follows h t plan r in
-    let z : Both = both_steps (walks h t (steps_of plan)) r in
-    both_are h t z (excused h t plan r.deal r.first r.second) (joint t (joint_of plan) r.first) (joint (excused h t plan r.deal r.first r.second) (joint_of plan) r.second)
+walks_excuse K t plan r =
+    let f = follows K t plan r in
+    let z : Both = both_steps (walks K t (steps_of plan)) r in
+    both_are K t z (excused K t plan r.deal r.first r.second) (joint t (joint_of plan) r.first) (joint (excused K t plan r.deal r.first r.second) (joint_of plan) r.second)
     f.deal f.first (f.second ∙ ap (λ (y : Tape). joint y (joint_of plan) r.second) f.deal)

@@ -7,6 +7,7 @@ use Rattle.vd_tape.specs.declared.deal_items.deal.DealKind.TheVariants.{Own, Mul
 use Rattle.vd_execution.specs.Step.{Source, Inputs}
 use Rattle.vd_execution.specs.World.{zeros_of}
 use Rattle.vd_execution.specs.Joint.{fresh}
+use Rattle.vd_views.specs.Views.{alone}
 use Rattle.vd_views.specs.Contract.{with_inputs}
 use Rattle.vd_excuse_walk.specs.declared.equivocation_laws.step.Step.{Step}
 use Rattle.vd_excuse_walk.specs.Walks.{Both, both_steps, walks}
@@ -22,7 +23,7 @@ at_start first second deals = record { deal = with_inputs (file_tape first deals
 
 -- both runs at their end
 abbrev pub end_of : HostId → List Step → List (List ℕ) → List (List ℕ) → List Deal → Both
-end_of h steps first second deals = both_steps (walks h.0 (file_tape first deals) steps) (at_start first second deals)
+end_of h steps first second deals = both_steps (walks (alone h.0) (file_tape first deals) steps) (at_start first second deals)
 
 -- the second run takes no item past the end of a list, and nothing stands there
 pub record EndsWithin (deals : List Deal) (end : Both) : Type 0 where

@@ -1,12 +1,12 @@
--- Two runs along the same steps, as lists: what `Walks` of vd_equivocation_laws says of tapes and of all hosts.
+-- Two runs along the same steps, as lists: what `Walks` says of tapes and of all hosts.
 use Rattle.std.specs.Prelude.{ℕ, if◌then◌else◌, Bool, true, false, List, [], ◌∷◌, map, bit_xor, slice_index}
 use Rattle.vd_base.specs.declared.ids.HostId.{HostId}
 use Rattle.vd_tape.specs.declared.deal_items.items.Triple.{Triple}
 use Rattle.vd_execution.specs.declared.instructions.Reg.{Reg}
 use Rattle.vd_execution.specs.Joint.{Part as HostPart, turns}
 use Rattle.vd_views.specs.Items.{raised, sum_item, xor_item, pair_item}
-use Rattle.vd_views.specs.Excused.{if_both}
-use Rattle.vd_excuse_walk.specs.Walks.{other_side}
+use Rattle.vd_views.specs.Views.{alone}
+use Rattle.vd_views.specs.Excused.{across, if_both}
 use Rattle.vd_excuse_walk.specs.declared.equivocation_laws.step.Operands.{Operands}
 use Rattle.vd_excuse_walk.specs.declared.equivocation_laws.step.Part.{Part}
 use Rattle.vd_excuse_walk.specs.declared.equivocation_laws.step.Hidden.{Hidden}
@@ -58,10 +58,11 @@ word_hidden p q k d =
     let theirs = shared_pair (side_at d.second d.host.0) k (side_at d.second k.0).taken.pairs in
     record d { second = put_side d.second k.0 (with_pair d.host (pair_of (pair_item dealt (pair_words theirs))) (side_at d.second k.0)) }
 
+-- where the one of two hosts looks and the other does not, the other's item
 abbrev pub hidden : Hidden → Walker → Walker
-hidden (Product m n) d = other_side d.host.0 m.host.0 n.host.0 (product_hidden m d) (product_hidden n d) d
-hidden (Bits m n) d = other_side d.host.0 m.host.0 n.host.0 (bits_hidden m d) (bits_hidden n d) d
-hidden (Word p q) d = other_side d.host.0 p.host.0 q.host.0 (word_hidden p q p.host d) (word_hidden p q q.host d) d
+hidden (Product m n) d = across (alone d.host.0 m.host.0) (alone d.host.0 n.host.0) (product_hidden n d) (product_hidden m d) d
+hidden (Bits m n) d = across (alone d.host.0 m.host.0) (alone d.host.0 n.host.0) (bits_hidden n d) (bits_hidden m d) d
+hidden (Word p q) d = across (alone d.host.0 p.host.0) (alone d.host.0 q.host.0) (word_hidden p q q.host d) (word_hidden p q p.host d) d
 
 -- ---- steps
 

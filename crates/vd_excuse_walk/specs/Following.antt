@@ -4,6 +4,7 @@ use Rattle.vd_base.specs.declared.ids.HostId.{HostId}
 use Rattle.vd_execution.specs.Step.{Source, Inputs, OwnWords, Triples, BitTriples, Pairs, Cursors}
 use Rattle.vd_execution.specs.World.{Tape}
 use Rattle.vd_execution.specs.Joint.{Host, Hosts}
+use Rattle.vd_views.specs.Views.{alone}
 use Rattle.vd_excuse_walk.specs.declared.equivocation_laws.step.Step.{Step}
 use Rattle.vd_excuse_walk.specs.Walks.{Both, both_steps, walks}
 use Rattle.vd_excuse_runs.specs.declared.side.Side.{Side}
@@ -85,4 +86,4 @@ module _ (h : HostId) (t : Tape) (n : ℕ → Source → ℕ) (start : List Side
 abbrev pub WalksAreFollowed : Type 0
 WalksAreFollowed =
     (h : HostId) (t : Tape) (n : ℕ → Source → ℕ) (start : List Side) → (side_at start h.0).peer.0 ≢ h.0 → (steps : List Step) (d : Walker) (r : Both)
-    → Follows h t n start d r → Follows h t n start (all_both (data_walks steps) d) (both_steps (walks h.0 t steps) r)
+    → Follows h t n start d r → Follows h t n start (all_both (data_walks steps) d) (both_steps (walks (alone h.0) t steps) r)

@@ -1,13 +1,14 @@
 -- Two runs along the same steps, the second by a deal that is changed on the way.
-use Rattle.std.specs.Prelude.{ℕ, nat_eq, if◌then◌else◌, List, [], ◌∷◌, map, bit_xor}
+use Rattle.std.specs.Prelude.{ℕ, if◌then◌else◌, List, [], ◌∷◌, map, bit_xor}
 use Rattle.vd_execution.specs.Step.{Source, Pairs}
 use Rattle.vd_execution.specs.World.{Tape}
 use Rattle.vd_execution.specs.Joint.{Part as HostPart, Hosts, is_other, turn_begun, turns}
 use Rattle.vd_execution.specs.Acts.{run_act}
 use Rattle.vd_execution.specs.Gadgets.{Sharing, BySums, ByXors, source_of}
+use Rattle.vd_views.specs.Views.{Coalition}
 use Rattle.vd_views.specs.Hiding.{next_item}
 use Rattle.vd_views.specs.Items.{item_for, pair_item, raised}
-use Rattle.vd_views.specs.Excused.{with_item, if_both}
+use Rattle.vd_views.specs.Excused.{with_item, across, if_both}
 use Rattle.vd_execution.specs.Registers.{nth}
 use Rattle.vd_excuse_walk.specs.declared.equivocation_laws.step.Operands.{Operands}
 use Rattle.vd_excuse_walk.specs.declared.equivocation_laws.step.Part.{Part}
@@ -49,14 +50,11 @@ paired_again h t p q k r =
     let i : ℕ = (r.second k).cursors (Pairs h) in
     with_item r.deal k (Pairs h) i (pair_item (raised (dealt_word p q t r.first) (word_of p q r.first) (word_of p q r.second)) (r.deal h (Pairs k) i))
 
--- of two hosts, the item of the one that does not look
-abbrev pub other_side : {A : Type 0} → ℕ → ℕ → ℕ → A → A → A → A
-other_side h a b of_a of_b none = if nat_eq a h then of_b else (if nat_eq b h then of_a else none)
-
-abbrev pub hidden_again : ℕ → Tape → Hidden → Both → Tape
-hidden_again h t (Product m n) r = other_side h m.host.0 n.host.0 (masked_again h t BySums m r) (masked_again h t BySums n r) r.deal
-hidden_again h t (Bits m n) r = other_side h m.host.0 n.host.0 (masked_again h t ByXors m r) (masked_again h t ByXors n r) r.deal
-hidden_again h t (Word p q) r = other_side h p.host.0 q.host.0 (paired_again h t p q p.host.0 r) (paired_again h t p q q.host.0 r) r.deal
+-- where one of the two hosts looks and the other does not, the item of the other one
+abbrev pub hidden_again : Coalition → Tape → Hidden → Both → Tape
+hidden_again K t (Product m n) r = across (K m.host.0) (K n.host.0) (masked_again m.host.0 t BySums n r) (masked_again n.host.0 t BySums m r) r.deal
+hidden_again K t (Bits m n) r = across (K m.host.0) (K n.host.0) (masked_again m.host.0 t ByXors n r) (masked_again n.host.0 t ByXors m r) r.deal
+hidden_again K t (Word p q) r = across (K p.host.0) (K q.host.0) (paired_again p.host.0 t p q q.host.0 r) (paired_again q.host.0 t p q p.host.0 r) r.deal
 
 -- ---- steps
 
@@ -79,7 +77,7 @@ run_either ps first other t w = if is_other ps w then run_steps other t w else r
 abbrev pub both_begun : List HostPart → ℕ → Both → Both
 both_begun ps i r = record { deal = r.deal; first = turn_begun ps i r.first; second = turn_begun ps i r.second }
 
-module _ (h : ℕ) (t : Tape) where
+module _ (K : Coalition) (t : Tape) where
   -- a branch: in it nothing is changed where the runs part
   abbrev pub both_either : List HostPart → List Walk → List Walk → Both → Both
   both_either ps first other r =
@@ -87,7 +85,7 @@ module _ (h : ℕ) (t : Tape) where
       (record { deal = r.deal; first = run_either ps first other t r.first; second = run_either ps first other r.deal r.second })
 
   abbrev pub step_walk : Step-F Walk → Walk
-  step_walk (Step-F.Hide x) = record { run = λ u w. w; both = λ r. record { deal = hidden_again h t x r; first = r.first; second = r.second } }
+  step_walk (Step-F.Hide x) = record { run = λ u w. w; both = λ r. record { deal = hidden_again K t x r; first = r.first; second = r.second } }
   step_walk (Step-F.Act a) = record {
     run = λ u w. run_act u a w;
     both = λ r. record { deal = r.deal; first = run_act t a r.first; second = run_act r.deal a r.second };

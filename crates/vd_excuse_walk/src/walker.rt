@@ -116,7 +116,11 @@ impl Walker {
         ensures { OnOk result (self.new ≡ hidden (Product m.now n.now) self.old) }
     {
         if m.host.0 == self.host.0 {
-            self.hide_product(n)
+            if n.host.0 == self.host.0 {
+                Ok(())
+            } else {
+                self.hide_product(n)
+            }
         } else if n.host.0 == self.host.0 {
             self.hide_product(m)
         } else {
@@ -128,7 +132,11 @@ impl Walker {
         ensures { OnOk result (self.new ≡ hidden (Bits m.now n.now) self.old) }
     {
         if m.host.0 == self.host.0 {
-            self.hide_bits(n)
+            if n.host.0 == self.host.0 {
+                Ok(())
+            } else {
+                self.hide_bits(n)
+            }
         } else if n.host.0 == self.host.0 {
             self.hide_bits(m)
         } else {
@@ -140,7 +148,11 @@ impl Walker {
         ensures { OnOk result (self.new ≡ hidden (Word p.now q.now) self.old) }
     {
         if p.host.0 == self.host.0 {
-            self.hide_word(p, q, q.host)
+            if q.host.0 == self.host.0 {
+                Ok(())
+            } else {
+                self.hide_word(p, q, q.host)
+            }
         } else if q.host.0 == self.host.0 {
             self.hide_word(p, q, p.host)
         } else {

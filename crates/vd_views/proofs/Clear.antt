@@ -17,6 +17,7 @@ use Rattle.vd_duet.specs.Builder.{next_at, taken}
 use Rattle.vd_duet.specs.Calls.{Places, hosts_of, Made}
 use Rattle.vd_duet.specs.Laws.{IsHost, Copies}
 use Rattle.vd_clear.specs.Copies.{passed, told, compared, adopted, first_register, shown, each_made}
+use Rattle.vd_views.specs.Views.{Coalition, IsIn}
 use Rattle.vd_views.specs.Sides.{AreKin, after, Telling, Each, IsQuiet}
 use Rattle.vd_views.proofs.Sides.{after_append, telling_then, telling_quiet, telling_on}
 
@@ -45,7 +46,7 @@ do_keeps t k a w g n = ap (λ (s : Host). s.registers) (put_other w k (acted (t 
 
 -- ---- a word goes from one host to others
 
-module _ (h : ℕ) (t y : Tape) (kin : AreKin h t y) (a : HostId) (x : Reg) (c d : ℕ) where
+module _ (K : Coalition) (t y : Tape) (kin : AreKin K t y) (a : HostId) (x : Reg) (c d : ℕ) where
   abbrev HasBoth : Hosts → Hosts → Type 0
   HasBoth w v = ((w a.0).registers x.0 ≡ c) × ((v a.0).registers x.0 ≡ d)
 
@@ -55,22 +56,22 @@ module _ (h : ℕ) (t y : Tape) (kin : AreKin h t y) (a : HostId) (x : Reg) (c d
     ap (λ (f : Registers). f x.0) (msg_other a.0 (x ∷ []) k.0 (r ∷ []) v a.0 n) ∙ e.1,
   )
 
-  pub passed_tells : (hs : List HostId) (next : List ℕ) (w v : Hosts) → HasBoth w v → (IsHost hs h → c ≡ d) → Telling h t y (each_made (passed a x) hs next).gadgets w v
+  pub passed_tells : (hs : List HostId) (next : List ℕ) (w v : Hosts) → HasBoth w v → ((g : ℕ) → IsIn K g → IsHost hs g → c ≡ d) → Telling K t y (each_made (passed a x) hs next).gadgets w v
   passed_tells [] next w v e same = λ b tidy hides. tt
   passed_tells (k ∷ hs) next w v e same =
-      at (λ n u z f. passed_tells hs n u z f (λ j. same (inr j))) (nat_eq a.0 k.0) refl
+      at (λ n u z f. passed_tells hs n u z f (λ g m j. same g m (inr j))) (nat_eq a.0 k.0) refl
     where
       differ : nat_eq a.0 k.0 ≡ false → a.0 ≢ k.0
       differ e f = grind (arith, rules)
 
-      at : ((n : List ℕ) (u z : Hosts) → HasBoth u z → Telling h t y (each_made (passed a x) hs n).gadgets u z) → (b : Bool) → nat_eq a.0 k.0 ≡ b
+      at : ((n : List ℕ) (u z : Hosts) → HasBoth u z → Telling K t y (each_made (passed a x) hs n).gadgets u z) → (b : Bool) → nat_eq a.0 k.0 ≡ b
           → let one : Made Reg = if b then record { given = x; gadgets = []; next = next } else record { given = next_at next k; gadgets = Tells a (x ∷ []) k (next_at next k ∷ []) ∷ []; next = taken k 1 next } in
-          Telling h t y (one.gadgets ++ (each_made (passed a x) hs one.next).gadgets) w v
+          Telling K t y (one.gadgets ++ (each_made (passed a x) hs one.next).gadgets) w v
       at later true i = later next w v e
       at later false i =
           let r : Reg = next_at next k in
-          telling_then h t y kin (Tells a (x ∷ []) k (r ∷ [])) (each_made (passed a x) hs (taken k 1 next)).gadgets w v
-          (λ b hides f. ap (λ z. z ∷ []) (e.0 ∙ same (inl (sym f)) ∙ sym e.1))
+          telling_then K t y kin (Tells a (x ∷ []) k (r ∷ [])) (each_made (passed a x) hs (taken k 1 next)).gadgets w v
+          (λ b hides f. ap (λ z. z ∷ []) (e.0 ∙ same k.0 f (inl refl) ∙ sym e.1))
           (later (taken k 1 next) (after_msg a.0 (x ∷ []) k.0 (r ∷ []) w) (after_msg a.0 (x ∷ []) k.0 (r ∷ []) v) (heard_on k r (differ i) w v e))
 
 -- ---- copies are told to a host that has none
@@ -122,14 +123,14 @@ not_among (g ∷ hs) k e i = at (not_among hs k) (nat_eq k g.0) refl e i
     at again false f e (inl j) = opposite (nat_eq k g.0) (eq-eqb k g.0 j) f
     at again false f e (inr j) = again e j
 
-module _ (h : ℕ) (t y : Tape) (kin : AreKin h t y) (c d : ℕ) where
-  told_tells : (x : Places) (k : HostId) → IsNone x k.0 → (next : List ℕ) (w v : Hosts) → Copies w x c → Copies v x d → (k.0 ≡ h → c ≡ d) → Telling h t y (told x k next).gadgets w v
+module _ (K : Coalition) (t y : Tape) (kin : AreKin K t y) (c d : ℕ) where
+  told_tells : (x : Places) (k : HostId) → IsNone x k.0 → (next : List ℕ) (w v : Hosts) → Copies w x c → Copies v x d → (IsIn K k.0 → c ≡ d) → Telling K t y (told x k next).gadgets w v
   told_tells [] k out next w v e f same = λ b tidy hides. tt
   told_tells (q ∷ x) k out next w v e f same =
       let r : Reg = next_at next k in
       let w1 : Hosts = after_msg q.0.0 (q.1 ∷ []) k.0 (r ∷ []) w in
       let v1 : Hosts = after_msg q.0.0 (q.1 ∷ []) k.0 (r ∷ []) v in
-      telling_then h t y kin (Tells q.0 (q.1 ∷ []) k (r ∷ [])) (told x k (taken k 1 next)).gadgets w v
+      telling_then K t y kin (Tells q.0 (q.1 ∷ []) k (r ∷ [])) (told x k (taken k 1 next)).gadgets w v
       (λ b hides i. ap (λ z. z ∷ []) (e.0 ∙ same i ∙ sym f.0))
       (told_tells x k (λ i. out (inr i)) (taken k 1 next) w1 v1
       (copies_still x k.0 (λ i. out (inr i)) w w1 c (λ g n. msg_other q.0.0 (q.1 ∷ []) k.0 (r ∷ []) w g n) e.1)
@@ -137,11 +138,11 @@ module _ (h : ℕ) (t y : Tape) (kin : AreKin h t y) (c d : ℕ) where
 
   -- what is shown to a host, and that the copies go on standing
   pub record Shown (x : Places) (k : HostId) (next : List ℕ) (w v : Hosts) : Type 0 where
-    pub tells : Telling h t y (shown x k next).gadgets w v
+    pub tells : Telling K t y (shown x k next).gadgets w v
     pub first : Copies (after t (shown x k next).gadgets w) x c
     pub second : Copies (after y (shown x k next).gadgets v) x d
 
-  pub shown_tells : (x : Places) (k : HostId) (next : List ℕ) (w v : Hosts) → Copies w x c → Copies v x d → (k.0 ≡ h → c ≡ d) → Shown x k next w v
+  pub shown_tells : (x : Places) (k : HostId) (next : List ℕ) (w v : Hosts) → Copies w x c → Copies v x d → (IsIn K k.0 → c ≡ d) → Shown x k next w v
   shown_tells x k next w v e f same = let p = at (is_among (hosts_of x) k.0) refl in record { tells = p.0; first = p.1.0; second = p.1.1 }
     where
       keeps : (s : Tape) (u : Hosts) → KeepsBut k.0 u (after s ((told x k next).gadgets ++ compared k (told x k next).given) u)
@@ -153,22 +154,22 @@ module _ (h : ℕ) (t y : Tape) (kin : AreKin h t y) (c d : ℕ) where
 
       at : (b : Bool) → is_among (hosts_of x) k.0 ≡ b
           → let one : Made Reg = if b then adopted x k next else record { given = first_register (told x k next).given; gadgets = (told x k next).gadgets ++ compared k (told x k next).given; next = (told x k next).next } in
-          (Telling h t y one.gadgets w v) × (Copies (after t one.gadgets w) x c × Copies (after y one.gadgets v) x d)
+          (Telling K t y one.gadgets w v) × (Copies (after t one.gadgets w) x c × Copies (after y one.gadgets v) x d)
       at true i = ((λ b tidy hides. tt), (e, f))
       at false i =
           let out : IsNone x k.0 = not_among (hosts_of x) k.0 i in
           let gs : List Gadget = (told x k next).gadgets in
           let cs : List Gadget = compared k (told x k next).given in (
-            telling_on h t y kin gs cs w v (after t gs w) (after y gs v) refl refl (told_tells x k out next w v e f same)
-                (telling_quiet h t y kin cs (after t gs w) (after y gs v) (compared_quiet k (told x k next).given)),
+            telling_on K t y kin gs cs w v (after t gs w) (after y gs v) refl refl (told_tells x k out next w v e f same)
+                (telling_quiet K t y kin cs (after t gs w) (after y gs v) (compared_quiet k (told x k next).given)),
             (copies_still x k.0 out w (after t (gs ++ cs) w) c (keeps t w) e, copies_still x k.0 out v (after y (gs ++ cs) v) d (keeps y v) f),
           )
 
   -- copies are shown to hosts one after the other
-  pub spread_tells : (x : Places) (hs : List HostId) (next : List ℕ) (w v : Hosts) → Copies w x c → Copies v x d → (IsHost hs h → c ≡ d) → Telling h t y (each_made (shown x) hs next).gadgets w v
+  pub spread_tells : (x : Places) (hs : List HostId) (next : List ℕ) (w v : Hosts) → Copies w x c → Copies v x d → ((g : ℕ) → IsIn K g → IsHost hs g → c ≡ d) → Telling K t y (each_made (shown x) hs next).gadgets w v
   spread_tells x [] next w v e f same = λ b tidy hides. tt
   spread_tells x (k ∷ hs) next w v e f same =
-      let one = shown_tells x k next w v e f (λ i. same (inl (sym i))) in
+      let one = shown_tells x k next w v e f (λ i. same k.0 i (inl refl)) in
       let gs : List Gadget = (shown x k next).gadgets in
-      telling_on h t y kin gs (each_made (shown x) hs (shown x k next).next).gadgets w v (after t gs w) (after y gs v) refl refl one.tells
-      (spread_tells x hs (shown x k next).next (after t gs w) (after y gs v) one.first one.second (λ i. same (inr i)))
+      telling_on K t y kin gs (each_made (shown x) hs (shown x k next).next).gadgets w v (after t gs w) (after y gs v) refl refl one.tells
+      (spread_tells x hs (shown x k next).next (after t gs w) (after y gs v) one.first one.second (λ g m i. same g m (inr i)))

@@ -1,19 +1,20 @@
 -- Plans one after the other: what holds along both runs, and that they are tidy, plain and within.
-use Rattle.std.proofs.Common.{ℕ, List, [], ◌∷◌, subst₂}
+use Rattle.std.proofs.Common.{List, [], ◌∷◌, subst₂}
 use Rattle.vd_execution.specs.World.{Tape}
 use Rattle.vd_execution.specs.Joint.{Part, Hosts, joint, turns}
 use Rattle.vd_execution.specs.Acts.{run_acts}
 use Rattle.vd_execution.specs.Gadgets.{Gadget, acts_of_gadget, GadgetsAreTidy}
 use Rattle.vd_execution.specs.Plans.{Plan, Ends, Then, Branch, Loop, joint_of, PlanIsWithin, PlanIsTidy}
 use Rattle.vd_execution.proofs.Front.{runs_first}
+use Rattle.vd_views.specs.Views.{Coalition}
 use Rattle.vd_views.specs.Hiding.{AlongGadgets}
 use Rattle.vd_views.specs.Plans.{AlongPlan, run_branch, run_turn}
 use Rattle.vd_split.specs.Joint.{acts_then, and_then}
-use Rattle.vd_views.specs.Sides.{after, Each, IsPlain, PlanIsPlain}
+use Rattle.vd_views.specs.Sides.{after, Each, IsPlain, PlanIsPlain, OwnsInSight}
 
-module _ (h : ℕ) (P : Gadget → Hosts → Hosts → Type 0) (G : List Part → Hosts → Hosts → Type 0) (t u : Tape) where
+module _ (K : Coalition) (P : Gadget → Hosts → Hosts → Type 0) (G : List Part → Hosts → Hosts → Type 0) (t u : Tape) where
   abbrev pub Along : Plan Gadget → Hosts → Hosts → Type 0
-  Along plan w v = AlongPlan h P G t u plan w v
+  Along plan w v = AlongPlan K P G t u plan w v
 
   pub plan_on : (a b : Plan Gadget) (w v : Hosts) → Along a w v → Along b (joint t (joint_of a) w) (joint u (joint_of a) v) → Along (and_then a b) w v
   plan_on Ends b w v p q = q
@@ -62,6 +63,12 @@ plain_split Ends b p = (tt, p)
 plain_split (Then g r) b p = let rest = plain_split r b p.1 in ((p.0, rest.0), rest.1)
 plain_split (Branch ps x o r) b p = let rest = plain_split r b p.1.1 in ((p.0, (p.1.0, rest.0)), rest.1)
 plain_split (Loop ps n body r) b p = let rest = plain_split r b p.1 in ((p.0, rest.0), rest.1)
+
+pub sight_split : (K : Coalition) (a b : Plan Gadget) → OwnsInSight K (and_then a b) → OwnsInSight K a × OwnsInSight K b
+sight_split K Ends b p = (tt, p)
+sight_split K (Then g r) b p = sight_split K r b p
+sight_split K (Branch ps x o r) b p = let rest = sight_split K r b p.1.1.1 in ((p.0, (p.1.0, (p.1.1.0, rest.0))), rest.1)
+sight_split K (Loop ps n body r) b p = let rest = sight_split K r b p.1 in ((p.0, rest.0), rest.1)
 
 pub nothing_along : (t u : Tape) (xs : List Gadget) (w v : Hosts) → AlongGadgets (λ g x y. Unit {0}) t u xs w v
 nothing_along t u [] w v = tt

@@ -2,7 +2,7 @@
 use Rattle.std.proofs.Common.{◌≡◌, ◌≢◌, suc, List, [], ◌∷◌, inl, inr, length, map, refl, sym, ap, subst, ◌∙◌}
 use Rattle.vd_views.specs.Sides.{Each}
 use Rattle.vd_views.specs.PairUp.{AreDifferent}
-use Rattle.vd_views.specs.Lengths.{IsIn, AreAll}
+use Rattle.vd_views.specs.Lengths.{IsAmong, AreAll}
 
 pub mapped_count : {X Y : Type 0} (f : X → Y) (xs : List X) → length (map f xs) ≡ length xs
 mapped_count f [] = refl
@@ -22,7 +22,7 @@ module _ {X Y : Type 0} (P : X → Type 0) (Q : Y → Type 0) (f : X → Y) (g :
   all_apart [] ps ds = tt
   all_apart (x ∷ xs) ps ds = (apart x ps.0 xs ps.1 ds.0, all_apart xs ps.1 ds.1)
 
-  is_in : (x : X) (xs : List X) → IsIn x xs → IsIn (f x) (map f xs)
+  is_in : (x : X) (xs : List X) → IsAmong x xs → IsAmong (f x) (map f xs)
   is_in x [] i = i
   is_in x (u ∷ xs) (inl e) = inl (ap f e)
   is_in x (u ∷ xs) (inr i) = inr (is_in x xs i)
@@ -31,5 +31,5 @@ module _ {X Y : Type 0} (P : X → Type 0) (Q : Y → Type 0) (f : X → Y) (g :
   all_there xs all_first = record {
     each = each_there xs all_first.each;
     different = all_apart xs all_first.each all_first.different;
-    all = λ y q. subst (λ (z : Y). IsIn z (map f xs)) (back y q) (is_in (g y) xs (all_first.all (g y) (here y q)));
+    all = λ y q. subst (λ (z : Y). IsAmong z (map f xs)) (back y q) (is_in (g y) xs (all_first.all (g y) (here y q)));
   }

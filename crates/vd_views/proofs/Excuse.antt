@@ -1,6 +1,5 @@
 -- For every second run there is a deal by which the gadgets hide alike.
-use Rattle.std.proofs.Common.{◌≡◌, ◌≢◌, ℕ, zero, suc, ◌+◌, ◌-◌, ◌*◌, ◌%◌, ◌^◌, ◌<◌, ◌≤◌, List, [], ◌∷◌, ◌++◌, ◌⊎◌, inl, inr, refl, sym, ap, ap₂, subst, ◌∙◌, arith, lit<, nat_eq, Bool, true, false, if◌then◌else◌, bit_and, bit_xor}
-use Rattle.std.proofs.lemmas.Bool.Decides.{eqb_tells}
+use Rattle.std.proofs.Common.{◌≡◌, ◌≢◌, ℕ, zero, suc, ◌+◌, ◌-◌, ◌*◌, ◌%◌, ◌^◌, ◌<◌, ◌≤◌, List, [], ◌∷◌, ◌++◌, ◌⊎◌, inl, inr, refl, sym, ap, ap₂, subst, ◌∙◌, arith, lit<, Bool, false, bit_and, bit_xor}
 use Rattle.std.proofs.Math.Nat.{mod-lt, mod-eq_of_lt, add_comm}
 use Rattle.std.proofs.lemmas.Nat.{xor_comm, xor_lt, and_le_l}
 use Rattle.vd_base.specs.declared.ids.HostId.{HostId}
@@ -16,11 +15,13 @@ use Rattle.vd_execution.specs.Joint.{Host, Hosts, acted}
 use Rattle.vd_execution.specs.Acts.{run_acts}
 use Rattle.vd_execution.proofs.Front.{put_same, put_other, gadget_sound}
 use Rattle.vd_execution.specs.Gadgets.{Sharing, BySums, ByXors, Masking, Pairing, Gadget, Alone, Tells, Shares, BothShare, Opens, Masked, Paired, hide, take, source_of, masking, told_by, acts_of_gadget, GadgetIsTidy, GadgetsAreTidy, IsSound}
-use Rattle.vd_views.specs.Hiding.{next_item, HidesAlike, converted, pair_word, GadgetHides, AlongGadgets, TakenAlike, IsAnotherDeal, IsExcuse}
+use Rattle.vd_views.specs.Views.{Coalition, IsIn, IsOut}
+use Rattle.vd_views.specs.Hiding.{Crosses, IsWithout, next_item, HidesAlike, converted, pair_word, GadgetHides, AlongGadgets, TakenAlike, IsAnotherDeal, IsExcuse}
+use Rattle.vd_views.proofs.Coalitions.{in_or_out, never_both, differ, without_peer}
 use Rattle.vd_views.proofs.Hiding.{run_append, masking_keeps}
 use Rattle.vd_views.proofs.Frames.{further_same, acts_grow, taken_before, acts_frame}
 use Rattle.vd_views.specs.Items.{raised, turned, sum_item, xor_item, item_for, pair_item}
-use Rattle.vd_views.specs.Excused.{with_item, masked_again, paired_again, item_again}
+use Rattle.vd_views.specs.Excused.{with_item, masked_again, paired_again, across, item_again}
 use Rattle.vd_views.proofs.Masks.{hides_difference, makes_up, hides_xor, xor_makes_up, xor_back}
 use Rattle.vd_views.proofs.Changed.{changed_at, changed_host, changed_source, changed_elsewhere, changed_part, IsTriple, IsBitTriple, IsPair, AreWords, with_triple, with_bits, with_pair}
 
@@ -79,19 +80,19 @@ module _ (xs ys : List ℕ) (x z x' z' : ℕ) (fx : AreWords xs) (fy : AreWords 
 
 -- another deal, the same past what the gadget takes, by which it hides alike, and so it does by each later deal that keeps what was
 -- taken
-pub record ItemExcuse (h : ℕ) (t u : Tape) (r : Gadget) (w v : Hosts) (y : Tape) : Type 0 where
-  pub another : IsAnotherDeal h u v y
+pub record ItemExcuse (K : Coalition) (t u : Tape) (r : Gadget) (w v : Hosts) (y : Tape) : Type 0 where
+  pub another : IsAnotherDeal K u v y
   pub past : (g : ℕ) (s : Source) (i : ℕ) → (run_acts y (acts_of_gadget r) v g).cursors s ≤ i → y g s i ≡ u g s i
-  pub hides : (z : Tape) → TakenAlike (run_acts y (acts_of_gadget r) v) y z → GadgetHides h t z r w v
+  pub hides : (z : Tape) → TakenAlike (run_acts y (acts_of_gadget r) v) y z → GadgetHides K t z r w v
 
-pub another_itself : (h : ℕ) (u : Tape) (v : Hosts) → IsValidDeal u → IsAnotherDeal h u v u
-another_itself h u v deal = record { deal = deal; part = refl; inputs = λ g i. refl; own_words = λ g i. refl; taken = λ g s i l. refl }
+pub another_itself : (K : Coalition) (u : Tape) (v : Hosts) → IsValidDeal u → IsAnotherDeal K u v u
+another_itself K u v deal = record { deal = deal; part = λ h i. refl; among = λ g s i o p. refl; inputs = λ g i. refl; own_words = λ g i. refl; taken = λ g s i l. refl }
 
-unchanged : (h : ℕ) (t u : Tape) (r : Gadget) (w v : Hosts) → IsValidDeal u → ((y : Tape) → GadgetHides h t y r w v) → ItemExcuse h t u r w v u
-unchanged h t u r w v du hides = record { another = another_itself h u v du; past = λ g s i l. refl; hides = λ y k. hides y }
+unchanged : (K : Coalition) (t u : Tape) (r : Gadget) (w v : Hosts) → IsValidDeal u → ((y : Tape) → GadgetHides K t y r w v) → ItemExcuse K t u r w v u
+unchanged K t u r w v du hides = record { another = another_itself K u v du; past = λ g s i l. refl; hides = λ y k. hides y }
 
 module _ (h : ℕ) (t u : Tape) (deal_t : IsValidDeal t) (deal_u : IsValidDeal u) (w v : Hosts) (sound_w : IsSound w) (sound_v : IsSound v) where
-  -- the side of the host that is not h takes another item
+  -- the side of the host that does not look takes another item
   module _ (sharing : Sharing) (m : Masking) (other : m.host.0 ≢ h) where
     abbrev k : ℕ
     k = m.host.0
@@ -203,8 +204,8 @@ no_own : (sharing : Sharing) (h : ℕ) → same_source OwnWords (source_of shari
 no_own BySums h = refl
 no_own ByXors h = refl
 
-masked_first : (t u : Tape) (dt : IsValidDeal t) (du : IsValidDeal u) (sharing : Sharing) (m n : Masking) (apart : m.host.0 ≢ n.host.0) (w v : Hosts) (sw : IsSound w) (sv : IsSound v) → ItemExcuse m.host.0 t u (Masked sharing m n) w v (with_item u n.host.0 (source_of sharing m.host.0) ((v n.host.0).cursors (source_of sharing m.host.0)) (item m.host.0 t u dt du w v sw sv sharing n (λ e. apart (sym e))))
-masked_first t u dt du sharing m n apart w v sw sv =
+masked_first : (K : Coalition) (t u : Tape) (dt : IsValidDeal t) (du : IsValidDeal u) (sharing : Sharing) (m n : Masking) (apart : m.host.0 ≢ n.host.0) (w v : Hosts) (sw : IsSound w) (sv : IsSound v) → IsIn K m.host.0 → IsOut K n.host.0 → ItemExcuse K t u (Masked sharing m n) w v (with_item u n.host.0 (source_of sharing m.host.0) ((v n.host.0).cursors (source_of sharing m.host.0)) (item m.host.0 t u dt du w v sw sv sharing n (λ e. apart (sym e))))
+masked_first K t u dt du sharing m n apart w v sw sv inside outside =
     let h : ℕ = m.host.0 in
     let s : Source = source_of sharing h in
     let back : n.host.0 ≢ h = λ e. apart (sym e) in
@@ -213,20 +214,21 @@ masked_first t u dt du sharing m n apart w v sw sv =
     record {
       another = record {
         deal = masked_deal h t u dt du w v sw sv sharing n back;
-        part = changed_part u n.host.0 s ((v n.host.0).cursors s) it h apart;
+        part = λ g i. changed_part u n.host.0 s ((v n.host.0).cursors s) it g (differ K g n.host.0 i outside);
+        among = λ g r j o x. changed_elsewhere u n.host.0 s ((v n.host.0).cursors s) it g r j (λ e f z. let P : Source → Type 0 = λ q. IsWithout K q in without_peer K sharing h inside (subst P f x));
         inputs = λ g i. changed_source u n.host.0 s ((v n.host.0).cursors s) it g Inputs i (no_input sharing h);
         own_words = λ g i. changed_source u n.host.0 s ((v n.host.0).cursors s) it g OwnWords i (no_own sharing h);
         taken = not_taken v u n.host.0 s it;
       };
       past = not_past (run_acts y0 (acts_of_gadget (Masked sharing m n)) v) u n.host.0 s ((v n.host.0).cursors s) it (second_takes y0 sharing m n v apart);
       hides = λ y k. (
-        (λ e. absurd (back e)),
-        (λ e. masked_hides h t u dt du w v sw sv sharing n back y (k n.host.0 s ((v n.host.0).cursors s) (second_takes y0 sharing m n v apart) ∙ changed_at u n.host.0 s ((v n.host.0).cursors s) it)),
+        (λ e o. never_both K n.host.0 e outside),
+        (λ e o. masked_hides h t u dt du w v sw sv sharing n back y (k n.host.0 s ((v n.host.0).cursors s) (second_takes y0 sharing m n v apart) ∙ changed_at u n.host.0 s ((v n.host.0).cursors s) it)),
       );
     }
 
-masked_second : (t u : Tape) (dt : IsValidDeal t) (du : IsValidDeal u) (sharing : Sharing) (m n : Masking) (apart : m.host.0 ≢ n.host.0) (w v : Hosts) (sw : IsSound w) (sv : IsSound v) → ItemExcuse n.host.0 t u (Masked sharing m n) w v (with_item u m.host.0 (source_of sharing n.host.0) ((v m.host.0).cursors (source_of sharing n.host.0)) (item n.host.0 t u dt du w v sw sv sharing m apart))
-masked_second t u dt du sharing m n apart w v sw sv =
+masked_second : (K : Coalition) (t u : Tape) (dt : IsValidDeal t) (du : IsValidDeal u) (sharing : Sharing) (m n : Masking) (apart : m.host.0 ≢ n.host.0) (w v : Hosts) (sw : IsSound w) (sv : IsSound v) → IsIn K n.host.0 → IsOut K m.host.0 → ItemExcuse K t u (Masked sharing m n) w v (with_item u m.host.0 (source_of sharing n.host.0) ((v m.host.0).cursors (source_of sharing n.host.0)) (item n.host.0 t u dt du w v sw sv sharing m apart))
+masked_second K t u dt du sharing m n apart w v sw sv inside outside =
     let h : ℕ = n.host.0 in
     let s : Source = source_of sharing h in
     let it : List ℕ = item h t u dt du w v sw sv sharing m apart in
@@ -234,15 +236,16 @@ masked_second t u dt du sharing m n apart w v sw sv =
     record {
       another = record {
         deal = masked_deal h t u dt du w v sw sv sharing m apart;
-        part = changed_part u m.host.0 s ((v m.host.0).cursors s) it h (λ e. apart (sym e));
+        part = λ g i. changed_part u m.host.0 s ((v m.host.0).cursors s) it g (differ K g m.host.0 i outside);
+        among = λ g r j o x. changed_elsewhere u m.host.0 s ((v m.host.0).cursors s) it g r j (λ e f z. let P : Source → Type 0 = λ q. IsWithout K q in without_peer K sharing h inside (subst P f x));
         inputs = λ g i. changed_source u m.host.0 s ((v m.host.0).cursors s) it g Inputs i (no_input sharing h);
         own_words = λ g i. changed_source u m.host.0 s ((v m.host.0).cursors s) it g OwnWords i (no_own sharing h);
         taken = not_taken v u m.host.0 s it;
       };
       past = not_past (run_acts y0 (acts_of_gadget (Masked sharing m n)) v) u m.host.0 s ((v m.host.0).cursors s) it (first_takes y0 sharing m n v);
       hides = λ y k. (
-        (λ e. masked_hides h t u dt du w v sw sv sharing m apart y (k m.host.0 s ((v m.host.0).cursors s) (first_takes y0 sharing m n v) ∙ changed_at u m.host.0 s ((v m.host.0).cursors s) it)),
-        (λ e. absurd (apart e)),
+        (λ e o. masked_hides h t u dt du w v sw sv sharing m apart y (k m.host.0 s ((v m.host.0).cursors s) (first_takes y0 sharing m n v) ∙ changed_at u m.host.0 s ((v m.host.0).cursors s) it)),
+        (λ e o. never_both K m.host.0 e outside),
       );
     }
 
@@ -278,9 +281,9 @@ module _ (t u : Tape) (deal_t : IsValidDeal t) (deal_u : IsValidDeal u) (p q : P
       (xor_lt 32 _ _ (deal_t.words _ _ _ _) (deal_t.words _ _ _ _)) (xor_lt 32 _ _ (sound_w.words _ _) (sound_w.words _ _)) (xor_lt 32 _ _ (sound_v.words _ _) (sound_v.words _ _))
 
   -- the second host is the other one
-  paired_first : ItemExcuse p.host.0 t u (Paired p q) w v (with_item u q.host.0 (Pairs p.host.0) ((v q.host.0).cursors (Pairs p.host.0)) (pair_item d (u p.host.0 (Pairs q.host.0) ((v q.host.0).cursors (Pairs p.host.0)))))
+  paired_first : (K : Coalition) → IsIn K p.host.0 → IsOut K q.host.0 → ItemExcuse K t u (Paired p q) w v (with_item u q.host.0 (Pairs p.host.0) ((v q.host.0).cursors (Pairs p.host.0)) (pair_item d (u p.host.0 (Pairs q.host.0) ((v q.host.0).cursors (Pairs p.host.0)))))
   unfolding pair_item
-  paired_first =
+  paired_first K inside outside =
       let h : ℕ = p.host.0 in
       let k : ℕ = q.host.0 in
       let c : ℕ = (v k).cursors (Pairs h) in
@@ -291,7 +294,8 @@ module _ (t u : Tape) (deal_t : IsValidDeal t) (deal_u : IsValidDeal u) (p q : P
       record {
         another = record {
           deal = with_pair u deal_u k h (λ e. apart (sym e)) c it (pair_fits d ys d_word fy) refl (pair_identity d ys d_word fy) (flip_pair it ys (pair_identity d ys d_word fy));
-          part = changed_part u k (Pairs h) c it h apart;
+          part = λ g i. changed_part u k (Pairs h) c it g (differ K g k i outside);
+          among = λ g r j o x. changed_elsewhere u k (Pairs h) c it g r j (λ e f z. let P : Source → Type 0 = λ q. IsWithout K q in let no : IsOut K h = subst P f x in never_both K h inside no);
           inputs = λ g i. changed_source u k (Pairs h) c it g Inputs i refl;
           own_words = λ g i. changed_source u k (Pairs h) c it g OwnWords i refl;
           taken = not_taken v u k (Pairs h) it;
@@ -307,9 +311,9 @@ module _ (t u : Tape) (deal_t : IsValidDeal t) (deal_u : IsValidDeal u) (p q : P
       }
 
   -- the first host is the other one
-  paired_second : ItemExcuse q.host.0 t u (Paired p q) w v (with_item u p.host.0 (Pairs q.host.0) ((v p.host.0).cursors (Pairs q.host.0)) (pair_item d (u q.host.0 (Pairs p.host.0) ((v p.host.0).cursors (Pairs q.host.0)))))
+  paired_second : (K : Coalition) → IsIn K q.host.0 → IsOut K p.host.0 → ItemExcuse K t u (Paired p q) w v (with_item u p.host.0 (Pairs q.host.0) ((v p.host.0).cursors (Pairs q.host.0)) (pair_item d (u q.host.0 (Pairs p.host.0) ((v p.host.0).cursors (Pairs q.host.0)))))
   unfolding pair_item
-  paired_second =
+  paired_second K inside outside =
       let h : ℕ = q.host.0 in
       let k : ℕ = p.host.0 in
       let c : ℕ = (v k).cursors (Pairs h) in
@@ -320,7 +324,8 @@ module _ (t u : Tape) (deal_t : IsValidDeal t) (deal_u : IsValidDeal u) (p q : P
       record {
         another = record {
           deal = with_pair u deal_u k h apart c it (pair_fits d ys d_word fy) refl (pair_identity d ys d_word fy) (flip_pair it ys (pair_identity d ys d_word fy));
-          part = changed_part u k (Pairs h) c it h (λ e. apart (sym e));
+          part = λ g i. changed_part u k (Pairs h) c it g (differ K g k i outside);
+          among = λ g r j o x. changed_elsewhere u k (Pairs h) c it g r j (λ e f z. let P : Source → Type 0 = λ q. IsWithout K q in let no : IsOut K h = subst P f x in never_both K h inside no);
           inputs = λ g i. changed_source u k (Pairs h) c it g Inputs i refl;
           own_words = λ g i. changed_source u k (Pairs h) c it g OwnWords i refl;
           taken = not_taken v u k (Pairs h) it;
@@ -337,97 +342,72 @@ module _ (t u : Tape) (deal_t : IsValidDeal t) (deal_u : IsValidDeal u) (p q : P
 
 -- ---- every gadget
 
-abbrev chosen : Bool → Bool → Tape → Tape → Tape → Tape
-chosen b d x y z = if b then x else (if d then y else z)
-
-pub item_excuse : (h : ℕ) (t u : Tape) → IsValidDeal t → IsValidDeal u → (r : Gadget) → GadgetIsTidy r → (w v : Hosts) → IsSound w → IsSound v → ItemExcuse h t u r w v (item_again h t r u w v)
-item_excuse h t u dt du (Alone g a) tidy w v sw sv = unchanged h t u (Alone g a) w v du (λ y. tt)
-item_excuse h t u dt du (Tells a said b heard) tidy w v sw sv = unchanged h t u (Tells a said b heard) w v du (λ y. tt)
-item_excuse h t u dt du (Shares a r b heard) tidy w v sw sv = unchanged h t u (Shares a r b heard) w v du (λ y. tt)
-item_excuse h t u dt du (BothShare a r heard b q heard_b) tidy w v sw sv = unchanged h t u (BothShare a r heard b q heard_b) w v du (λ y. tt)
-item_excuse h t u dt du (Opens sharing a x b y heard) tidy w v sw sv = unchanged h t u (Opens sharing a x b y heard) w v du (λ y. tt)
-item_excuse h t u dt du (Masked sharing m n) tidy w v sw sv = at (eqb_tells m.host.0 h) (eqb_tells n.host.0 h)
+pub item_excuse : (K : Coalition) (t u : Tape) → IsValidDeal t → IsValidDeal u → (r : Gadget) → GadgetIsTidy r → (w v : Hosts) → IsSound w → IsSound v → ItemExcuse K t u r w v (item_again K t r u w v)
+item_excuse K t u dt du (Alone g a) tidy w v sw sv = unchanged K t u (Alone g a) w v du (λ y. tt)
+item_excuse K t u dt du (Tells a said b heard) tidy w v sw sv = unchanged K t u (Tells a said b heard) w v du (λ y. tt)
+item_excuse K t u dt du (Shares a r b heard) tidy w v sw sv = unchanged K t u (Shares a r b heard) w v du (λ y. tt)
+item_excuse K t u dt du (BothShare a r heard b q heard_b) tidy w v sw sv = unchanged K t u (BothShare a r heard b q heard_b) w v du (λ y. tt)
+item_excuse K t u dt du (Opens sharing a x b y heard) tidy w v sw sv = unchanged K t u (Opens sharing a x b y heard) w v du (λ y. tt)
+item_excuse K t u dt du (Masked sharing m n) tidy w v sw sv = at (in_or_out K m.host.0) (in_or_out K n.host.0)
   where
     r : Gadget
     r = Masked sharing m n
 
     P : Tape → Type 0
-    P y = ItemExcuse h t u r w v y
+    P y = ItemExcuse K t u r w v y
 
-    first : ℕ → Tape
-    first x = masked_again x t sharing n u w v
+    -- the deal where these are inside
+    deal_of : Bool → Bool → Tape
+    deal_of a b = across a b (masked_again m.host.0 t sharing n u w v) (masked_again n.host.0 t sharing m u w v) u
 
-    second : ℕ → Tape
-    second x = masked_again x t sharing m u w v
-
-    by_first : ItemExcuse m.host.0 t u r w v (first m.host.0)
-    by_first = masked_first t u dt du sharing m n tidy.0 w v sw sv
-
-    by_second : ItemExcuse n.host.0 t u r w v (second n.host.0)
-    by_second = masked_second t u dt du sharing m n tidy.0 w v sw sv
-
-    at : ((nat_eq m.host.0 h ≡ true) × (m.host.0 ≡ h)) ⊎ ((nat_eq m.host.0 h ≡ false) × (m.host.0 ≢ h)) → ((nat_eq n.host.0 h ≡ true) × (n.host.0 ≡ h)) ⊎ ((nat_eq n.host.0 h ≡ false) × (n.host.0 ≢ h))
-        → ItemExcuse h t u r w v (chosen (nat_eq m.host.0 h) (nat_eq n.host.0 h) (first h) (second h) u)
-    at (inl e) _ =
-        subst P (sym (ap (λ (b : Bool). chosen b (nat_eq n.host.0 h) (first h) (second h) u) e.0)) (subst (λ (x : ℕ). ItemExcuse x t u r w v (first x)) e.1 by_first)
-    at (inr i) (inl e) =
-        subst P (sym (ap (λ (b : Bool). chosen b (nat_eq n.host.0 h) (first h) (second h) u) i.0 ∙ ap (λ (b : Bool). chosen false b (first h) (second h) u) e.0))
-        (subst (λ (x : ℕ). ItemExcuse x t u r w v (second x)) e.1 by_second)
-    at (inr i) (inr j) =
-        subst P (sym (ap (λ (b : Bool). chosen b (nat_eq n.host.0 h) (first h) (second h) u) i.0 ∙ ap (λ (b : Bool). chosen false b (first h) (second h) u) j.0))
-        (unchanged h t u r w v du (λ y. ((λ e. absurd (j.1 e)), (λ e. absurd (i.1 e)))))
-item_excuse h t u dt du (Paired p q) tidy w v sw sv = at (eqb_tells p.host.0 h) (eqb_tells q.host.0 h)
+    at : IsIn K m.host.0 ⊎ IsOut K m.host.0 → IsIn K n.host.0 ⊎ IsOut K n.host.0 → ItemExcuse K t u r w v (deal_of (K m.host.0) (K n.host.0))
+    at (inl i) (inr o) = subst P (sym (ap₂ deal_of i o)) (masked_first K t u dt du sharing m n tidy.0 w v sw sv i o)
+    at (inr o) (inl i) = subst P (sym (ap₂ deal_of o i)) (masked_second K t u dt du sharing m n tidy.0 w v sw sv i o)
+    at (inl i) (inl j) = subst P (sym (ap₂ deal_of i j)) (unchanged K t u r w v du (λ y. ((λ e o. never_both K m.host.0 i o), (λ e o. never_both K n.host.0 j o))))
+    at (inr i) (inr j) = subst P (sym (ap₂ deal_of i j)) (unchanged K t u r w v du (λ y. ((λ e o. never_both K n.host.0 e j), (λ e o. never_both K m.host.0 e i))))
+item_excuse K t u dt du (Paired p q) tidy w v sw sv = at (in_or_out K p.host.0) (in_or_out K q.host.0)
   where
     r : Gadget
     r = Paired p q
 
     P : Tape → Type 0
-    P y = ItemExcuse h t u r w v y
+    P y = ItemExcuse K t u r w v y
 
-    first : ℕ → Tape
-    first x = paired_again x t p q q.host.0 u w v
+    deal_of : Bool → Bool → Tape
+    deal_of a b = across a b (paired_again p.host.0 t p q q.host.0 u w v) (paired_again q.host.0 t p q p.host.0 u w v) u
 
-    second : ℕ → Tape
-    second x = paired_again x t p q p.host.0 u w v
+    both_in : IsIn K p.host.0 → IsIn K q.host.0 → Crosses K p.host.0 q.host.0 → ⊥
+    both_in i j (inl e) = never_both K q.host.0 j e.1
+    both_in i j (inr e) = never_both K p.host.0 i e.1
 
-    by_first : ItemExcuse p.host.0 t u r w v (first p.host.0)
-    by_first = paired_first t u dt du p q tidy w v sw sv
+    both_out : IsOut K p.host.0 → IsOut K q.host.0 → Crosses K p.host.0 q.host.0 → ⊥
+    both_out i j (inl e) = never_both K p.host.0 e.0 i
+    both_out i j (inr e) = never_both K q.host.0 e.0 j
 
-    by_second : ItemExcuse q.host.0 t u r w v (second q.host.0)
-    by_second = paired_second t u dt du p q tidy w v sw sv
-
-    neither : (p.host.0 ≢ h) → (q.host.0 ≢ h) → (p.host.0 ≡ h) ⊎ (q.host.0 ≡ h) → ⊥
-    neither i j (inl e) = i e
-    neither i j (inr e) = j e
-
-    at : ((nat_eq p.host.0 h ≡ true) × (p.host.0 ≡ h)) ⊎ ((nat_eq p.host.0 h ≡ false) × (p.host.0 ≢ h)) → ((nat_eq q.host.0 h ≡ true) × (q.host.0 ≡ h)) ⊎ ((nat_eq q.host.0 h ≡ false) × (q.host.0 ≢ h))
-        → ItemExcuse h t u r w v (chosen (nat_eq p.host.0 h) (nat_eq q.host.0 h) (first h) (second h) u)
-    at (inl e) _ =
-        subst P (sym (ap (λ (b : Bool). chosen b (nat_eq q.host.0 h) (first h) (second h) u) e.0)) (subst (λ (x : ℕ). ItemExcuse x t u r w v (first x)) e.1 by_first)
-    at (inr i) (inl e) =
-        subst P (sym (ap (λ (b : Bool). chosen b (nat_eq q.host.0 h) (first h) (second h) u) i.0 ∙ ap (λ (b : Bool). chosen false b (first h) (second h) u) e.0))
-        (subst (λ (x : ℕ). ItemExcuse x t u r w v (second x)) e.1 by_second)
-    at (inr i) (inr j) =
-        subst P (sym (ap (λ (b : Bool). chosen b (nat_eq q.host.0 h) (first h) (second h) u) i.0 ∙ ap (λ (b : Bool). chosen false b (first h) (second h) u) j.0))
-        (unchanged h t u r w v du (λ y e. absurd (neither i.1 j.1 e)))
+    at : IsIn K p.host.0 ⊎ IsOut K p.host.0 → IsIn K q.host.0 ⊎ IsOut K q.host.0 → ItemExcuse K t u r w v (deal_of (K p.host.0) (K q.host.0))
+    at (inl i) (inr o) = subst P (sym (ap₂ deal_of i o)) (paired_first t u dt du p q tidy w v sw sv K i o)
+    at (inr o) (inl i) = subst P (sym (ap₂ deal_of o i)) (paired_second t u dt du p q tidy w v sw sv K i o)
+    at (inl i) (inl j) = subst P (sym (ap₂ deal_of i j)) (unchanged K t u r w v du (λ y e. absurd (both_in i j e)))
+    at (inr i) (inr j) = subst P (sym (ap₂ deal_of i j)) (unchanged K t u r w v du (λ y e. absurd (both_out i j e)))
 
 -- ---- gadgets in a row
 
-pub gadgets_excuse : (h : ℕ) (t u : Tape) → IsValidDeal t → IsValidDeal u → (gadgets : List Gadget) → GadgetsAreTidy gadgets → (w v : Hosts) → IsSound w → IsSound v → (y : Tape) × IsExcuse h t u gadgets w v y
-gadgets_excuse h t u dt du [] tidy w v sw sv = (u, record { another = another_itself h u v du; hides = tt })
-gadgets_excuse h t u dt du (g ∷ gadgets) tidy w v sw sv =
-    let next : Tape = item_again h t g u w v in
-    let one : ItemExcuse h t u g w v next = item_excuse h t u dt du g tidy.0 w v sw sv in
+pub gadgets_excuse : (K : Coalition) (t u : Tape) → IsValidDeal t → IsValidDeal u → (gadgets : List Gadget) → GadgetsAreTidy gadgets → (w v : Hosts) → IsSound w → IsSound v → (y : Tape) × IsExcuse K t u gadgets w v y
+gadgets_excuse K t u dt du [] tidy w v sw sv = (u, record { another = another_itself K u v du; hides = tt })
+gadgets_excuse K t u dt du (g ∷ gadgets) tidy w v sw sv =
+    let next : Tape = item_again K t g u w v in
+    let one : ItemExcuse K t u g w v next = item_excuse K t u dt du g tidy.0 w v sw sv in
     let w1 : Hosts = run_acts t (acts_of_gadget g) w in
     let v1 : Hosts = run_acts next (acts_of_gadget g) v in
-    let more = gadgets_excuse h t next dt one.another.deal gadgets tidy.1 w1 v1 (gadget_sound t dt g tidy.0 w sw) (gadget_sound next one.another.deal g tidy.0 v sv) in
+    let more = gadgets_excuse K t next dt one.another.deal gadgets tidy.1 w1 v1 (gadget_sound t dt g tidy.0 w sw) (gadget_sound next one.another.deal g tidy.0 v sv) in
     let y : Tape = more.0 in
-    let P : Hosts → Type 0 = λ x. AlongGadgets (GadgetHides h t y) t y gadgets w1 x in (
+    let P : Hosts → Type 0 = λ x. AlongGadgets (GadgetHides K t y) t y gadgets w1 x in (
       y,
       record {
         another = record {
           deal = more.1.another.deal;
-          part = more.1.another.part ∙ one.another.part;
+          part = λ h i. more.1.another.part h i ∙ one.another.part h i;
+          among = λ k s i o p. more.1.another.among k s i o p ∙ one.another.among k s i o p;
           inputs = λ k i. more.1.another.inputs k i ∙ one.another.inputs k i;
           own_words = λ k i. more.1.another.own_words k i ∙ one.another.own_words k i;
           taken = λ k s i l. taken_before next (acts_of_gadget g) v next y more.1.another.taken k s i l ∙ one.another.taken k s i l;

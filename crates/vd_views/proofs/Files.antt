@@ -20,13 +20,15 @@ use Rattle.vd_base.specs.Words.{InputsAreWords}
 use Rattle.vd_world.specs.Supplies.{AreFiles, items_for}
 use Rattle.vd_world.proofs.Front.{files_are_valid}
 use Rattle.vd_noninter_protocols.specs.Told.{IsDealt}
-use Rattle.vd_views.specs.Views.{LooksAlike}
+use Rattle.vd_views.specs.Views.{LooksAlike, alone}
 use Rattle.vd_views.specs.Contract.{with_inputs, Explains}
 use Rattle.vd_views.specs.Excused.{excused}
-use Rattle.vd_views.specs.Explained.{IsOfTwo, plan_of, input_words, AgreeFor}
+use Rattle.vd_views.specs.Explained.{IsOfTwo, IsCoalition, plan_of, input_words, AgreeFor}
 use Rattle.vd_views.specs.PairUp.{IsDealOf as IsDealWith}
 use Rattle.vd_views.specs.Lengths.{Lengths, IsLongEnough, Shows, AreAll}
-use Rattle.vd_views.proofs.Theorem.{others_are_explained}
+use Rattle.vd_views.proofs.Coalitions.{is_alone, of_alone}
+use Rattle.vd_views.proofs.Strangers.{all_within, seen_item}
+use Rattle.vd_views.proofs.Theorem.{others_are_explained, one_of_two_looks}
 use Rattle.vd_views.proofs.Lengths.{excuses_are_as_long, show_equally_many}
 use Rattle.vd_machine.specs.Dealt.{dealt_count, counts_of}
 use Rattle.vd_views.specs.Files.{tape_of, AreEnough, AreAsLong, IsExcuse, FilesAreExplained, ShowsTheSame, FilesShowEquallyMany}
@@ -66,11 +68,11 @@ same_items h a b same (Some d) (Triples p) i = refl
 same_items h a b same (Some d) (BitTriples p) i = refl
 same_items h a b same (Some d) (Pairs p) i = refl
 
-long_enough : (plan : Plan Gadget) (deals : List Deal) (inputs : List (List ℕ)) (stored : List Deal) → AreEnough plan inputs stored → AreAsLong deals stored
-    → IsLongEnough (counts_of deals) plan (tape_of inputs stored)
-long_enough plan deals inputs stored enough long = record {
+long_enough : (h : ℕ) (plan : Plan Gadget) (deals : List Deal) (inputs : List (List ℕ)) (stored : List Deal) → AreEnough plan inputs stored → AreAsLong deals stored
+    → IsLongEnough (alone h) (counts_of deals) plan (tape_of inputs stored)
+long_enough h plan deals inputs stored enough long = record {
   ends = λ g s i not le. items_past inputs g (slice_get stored g) s i not (subst (λ n. n ≤ i) (sym (long g s)) le);
-  takes = λ g s not. subst (λ n. (joint (tape_of inputs stored) (joint_of plan) fresh g).cursors s ≤ n) (long g s) (enough.takes g s not);
+  takes = λ g s seen. subst (λ n. (joint (tape_of inputs stored) (joint_of plan) fresh g).cursors s ≤ n) (long g s) (enough.takes g s (seen_item h g s seen));
 }
 
 module _ (p : NormalForm) (l : Labels) (protocols : List Proto) (of_two : IsOfTwo p l protocols) (h : HostId) (low : h.0 < 2) (first : List (List ℕ)) (x w : Part)
@@ -116,7 +118,7 @@ module _ (p : NormalForm) (l : Labels) (protocols : List Proto) (of_two : IsOfTw
 
   -- ---- from a deal to files
 
-  module _ (given : List (List ℕ)) (few : length given ≤ 2) (words : InputsAreWords given) (z : Tape) (deal : IsDealWith (input_words given) z) (long : IsLongEnough (counts_of (file 0 x ∷ file 1 w ∷ [])) plan z) where
+  module _ (given : List (List ℕ)) (few : length given ≤ 2) (words : InputsAreWords given) (z : Tape) (deal : IsDealWith (input_words given) z) (long : IsLongEnough (alone h.0) (counts_of (file 0 x ∷ file 1 w ∷ [])) plan z) where
     again : tape_of given (read_files x w z) ≡ z
     again = tape_again x w z deal.deal given deal.inputs few (λ g s i not le. long.ends g s i not le)
 
@@ -126,26 +128,29 @@ module _ (p : NormalForm) (l : Labels) (protocols : List Proto) (of_two : IsOfTw
       two = refl;
       takes = λ g s not.
           subst (λ c. (joint (tape_of given (read_files x w z)) (joint_of plan) fresh g).cursors s ≤ c) (sym (counts_kept z g s))
-          (subst (λ (y : Tape). (joint y (joint_of plan) fresh g).cursors s ≤ counts_of (file 0 x ∷ file 1 w ∷ []) g s) (sym again) (long.takes g s not));
+          (subst (λ (y : Tape). (joint y (joint_of plan) fresh g).cursors s ≤ counts_of (file 0 x ∷ file 1 w ∷ []) g s) (sym again) (all_within p l protocols of_two h.0 low (counts_of (file 0 x ∷ file 1 w ∷ [])) z long g s not));
     }
 
   -- ---- explained
 
-  t_long : IsLongEnough (counts_of (file 0 x ∷ file 1 w ∷ [])) plan (tape_of first (file 0 x ∷ file 1 w ∷ []))
-  t_long = long_enough plan deals first deals enough (λ g s. refl)
+  together : IsCoalition p protocols (alone h.0)
+  together = one_of_two_looks p l protocols of_two.free of_two.hosts h.0 low
 
-  files_explained : (second : List (List ℕ)) → length second ≤ 2 → AgreeFor p l protocols h first second → (stored : List Deal) × IsExcuse h.0 plan first second (file 0 x ∷ file 1 w ∷ []) stored
+  t_long : IsLongEnough (alone h.0) (counts_of (file 0 x ∷ file 1 w ∷ [])) plan (tape_of first (file 0 x ∷ file 1 w ∷ []))
+  t_long = long_enough h.0 plan deals first deals enough (λ g s. refl)
+
+  files_explained : (second : List (List ℕ)) → length second ≤ 2 → AgreeFor p l protocols (alone h.0) first second → (stored : List Deal) × IsExcuse h.0 plan first second (file 0 x ∷ file 1 w ∷ []) stored
   files_explained second few agree =
-      let y : Tape = excused h.0 t plan (with_inputs t (input_words second)) fresh fresh in
-      let e : Explains h.0 plan t (input_words second) y = others_are_explained p l protocols of_two h low first second t (is_dealt first deals enough.files) agree in
-      let long : IsLongEnough n plan y = excuses_are_as_long p l protocols of_two h low (input_words second) t y e n t_long in
+      let y : Tape = excused (alone h.0) t plan (with_inputs t (input_words second)) fresh fresh in
+      let e : Explains (alone h.0) plan t (input_words second) y = others_are_explained p l protocols of_two.free (alone h.0) together first second t (is_dealt first deals enough.files) agree in
+      let long : IsLongEnough (alone h.0) n plan y = excuses_are_as_long p l protocols of_two.free (alone h.0) together (input_words second) t y (is_dealt first deals enough.files).deal e n t_long in
       let deal : IsDealWith (input_words second) y = record { deal = e.deal; inputs = e.inputs } in (
         read_files x w y,
         record {
           enough = enough_again second few agree.words y deal long;
-          kept = file_kept h.0 low y e.part;
+          kept = file_kept h.0 low y (e.part h.0 (is_alone h.0));
           as_long = counts_kept y;
-          explains = subst (λ (z : Tape). Explains h.0 plan t (input_words second) z) (sym (again second few agree.words y deal long)) e;
+          explains = subst (λ (z : Tape). Explains (alone h.0) plan t (input_words second) z) (sym (again second few agree.words y deal long)) e;
         },
       )
 
@@ -153,23 +158,24 @@ module _ (p : NormalForm) (l : Labels) (protocols : List Proto) (of_two : IsOfTw
 
   module _ (given : List (List ℕ)) (few : length given ≤ 2) (words : InputsAreWords given) (own : (i : ℕ) → input_words given h.0 i ≡ input_words first h.0 i) where
     to_deal : (stored : List Deal) → ShowsTheSame h.0 plan first (file 0 x ∷ file 1 w ∷ []) given stored
-        → Shows h.0 plan (counts_of (file 0 x ∷ file 1 w ∷ [])) (tape_of first (file 0 x ∷ file 1 w ∷ [])) (input_words given) (tape_of given stored)
+        → Shows (alone h.0) plan (counts_of (file 0 x ∷ file 1 w ∷ [])) (tape_of first (file 0 x ∷ file 1 w ∷ [])) (input_words given) (tape_of given stored)
     to_deal stored s = record {
       deal = is_deal given stored s.enough.files;
-      long = long_enough plan deals given stored s.enough s.as_long;
+      long = long_enough h.0 plan deals given stored s.enough s.as_long;
       sees = record {
-        part = fun_ext (λ r. fun_ext (λ i. ap (λ (o : Option Deal). or_zeros r (items_for given h.0 o r i)) s.kept ∙ same_items h.0 given first own (slice_get deals h.0) r i));
-        view = s.view;
+        part = of_alone h.0 (λ g. tape_of given stored g ≡ tape_of first (file 0 x ∷ file 1 w ∷ []) g)
+            (fun_ext (λ r. fun_ext (λ i. ap (λ (o : Option Deal). or_zeros r (items_for given h.0 o r i)) s.kept ∙ same_items h.0 given first own (slice_get deals h.0) r i)));
+        view = of_alone h.0 (λ g. LooksAlike g (joint t (joint_of plan) fresh) (joint (tape_of given stored) (joint_of plan) fresh)) s.view;
       };
     }
 
-    to_files : (z : Tape) → Shows h.0 plan (counts_of (file 0 x ∷ file 1 w ∷ [])) (tape_of first (file 0 x ∷ file 1 w ∷ [])) (input_words given) z
+    to_files : (z : Tape) → Shows (alone h.0) plan (counts_of (file 0 x ∷ file 1 w ∷ [])) (tape_of first (file 0 x ∷ file 1 w ∷ [])) (input_words given) z
         → ShowsTheSame h.0 plan first (file 0 x ∷ file 1 w ∷ []) given (read_files x w z)
     to_files z s = record {
       enough = enough_again given few words z s.deal s.long;
-      kept = file_kept h.0 low z s.sees.part;
+      kept = file_kept h.0 low z (s.sees.part h.0 (is_alone h.0));
       as_long = counts_kept z;
-      view = subst (λ (y : Tape). LooksAlike h.0 (joint t (joint_of plan) fresh) (joint y (joint_of plan) fresh)) (sym (again given few words z s.deal s.long)) s.sees.view;
+      view = subst (λ (y : Tape). LooksAlike h.0 (joint t (joint_of plan) fresh) (joint y (joint_of plan) fresh)) (sym (again given few words z s.deal s.long)) (s.sees.view h.0 (is_alone h.0));
     }
 
     files_again : (stored : List Deal) → ShowsTheSame h.0 plan first (file 0 x ∷ file 1 w ∷ []) given stored → read_files x w (tape_of given stored) ≡ stored
@@ -185,22 +191,22 @@ module _ (p : NormalForm) (l : Labels) (protocols : List Proto) (of_two : IsOfTw
         (first_back given x v u (record { own = sym (long 0 OwnWords); triples = sym (long 0 (Triples 1)); bits = sym (long 0 (BitTriples 1)); pairs = sym (long 0 (Pairs 1)) }))
         (second_back given w v u (record { own = sym (long 1 OwnWords); triples = sym (long 1 (Triples 0)); bits = sym (long 1 (BitTriples 0)); pairs = sym (long 1 (Pairs 0)) })))
 
-    deal_again : (z : Tape) → Shows h.0 plan (counts_of (file 0 x ∷ file 1 w ∷ [])) (tape_of first (file 0 x ∷ file 1 w ∷ [])) (input_words given) z → tape_of given (read_files x w z) ≡ z
+    deal_again : (z : Tape) → Shows (alone h.0) plan (counts_of (file 0 x ∷ file 1 w ∷ [])) (tape_of first (file 0 x ∷ file 1 w ∷ [])) (input_words given) z → tape_of given (read_files x w z) ≡ z
     deal_again z s = again given few words z s.deal s.long
 
-  files_counted : (second : List (List ℕ)) → length first ≤ 2 → length second ≤ 2 → AgreeFor p l protocols h first second → AgreeFor p l protocols h second first
+  files_counted : (second : List (List ℕ)) → length first ≤ 2 → length second ≤ 2 → AgreeFor p l protocols (alone h.0) first second → AgreeFor p l protocols (alone h.0) second first
       → (all : List (List Deal)) → AreAll (ShowsTheSame h.0 plan first (file 0 x ∷ file 1 w ∷ []) first) all
       → (others : List (List Deal)) × (length others ≡ length all) × AreAll (ShowsTheSame h.0 plan first (file 0 x ∷ file 1 w ∷ []) second) others
   files_counted second few more there here all all_first =
       let words : InputsAreWords first = enough.files.words in
       let same : (i : ℕ) → input_words first h.0 i ≡ input_words first h.0 i = λ i. refl in
-      let tapes = all_there (ShowsTheSame h.0 plan first deals first) (Shows h.0 plan n t (input_words first)) (tape_of first) (read_files x w)
+      let tapes = all_there (ShowsTheSame h.0 plan first deals first) (Shows (alone h.0) plan n t (input_words first)) (tape_of first) (read_files x w)
       (to_deal first few words same) (to_files first few words same) (files_again first few words same) (deal_again first few words same) all all_first in
-      let many = show_equally_many p l protocols of_two h low first second there here n t (map (tape_of first) all) tapes in
-      let back : (i : ℕ) → input_words second h.0 i ≡ input_words first h.0 i = λ i. sym (there.own i) in (
+      let many = show_equally_many p l protocols of_two.free (alone h.0) together first second there here n t (map (tape_of first) all) tapes in
+      let back : (i : ℕ) → input_words second h.0 i ≡ input_words first h.0 i = λ i. sym (there.own h.0 (is_alone h.0) i) in (
         map (read_files x w) many.0,
         mapped_count (read_files x w) many.0 ∙ many.1 ∙ mapped_count (tape_of first) all,
-        all_there (Shows h.0 plan n t (input_words second)) (ShowsTheSame h.0 plan first deals second) (read_files x w) (tape_of second)
+        all_there (Shows (alone h.0) plan n t (input_words second)) (ShowsTheSame h.0 plan first deals second) (read_files x w) (tape_of second)
             (to_files second more there.words back) (to_deal second more there.words back) (deal_again second more there.words back) (files_again second more there.words back) many.0 many.2,
       )
 

@@ -1,21 +1,22 @@
 -- Gadgets that hide alike what items hide tell a host alike.
-use Rattle.std.proofs.Common.{◌≡◌, ◌≢◌, ℕ, List, [], ◌∷◌, ◌++◌, refl, sym, ap, ap₂, subst, subst₂, ◌∙◌, ◌<◌, ◌^◌, arith, bit_xor}
+use Rattle.std.proofs.Common.{◌≡◌, ◌≢◌, ℕ, List, [], ◌∷◌, ◌++◌, ◌⊎◌, inl, inr, refl, sym, ap, ap₂, subst₂, ◌∙◌, ◌<◌, ◌^◌, arith, bit_xor}
 use Rattle.vd_base.specs.declared.ids.HostId.{HostId}
 use Rattle.vd_execution.specs.declared.instructions.Reg.{Reg}
 use Rattle.vd_execution.specs.declared.instructions.Action.TheVariants as action
 use Rattle.vd_execution.specs.declared.instructions.Act.{Act}
 use Rattle.vd_execution.specs.Registers.{Registers, put, applied, nth}
-use Rattle.vd_execution.specs.Step.{OwnWords, words_in}
+use Rattle.vd_execution.specs.Step.{Source, OwnWords, words_in}
 use Rattle.vd_execution.specs.World.{Tape}
 use Rattle.vd_execution.specs.Joint.{Host, Hosts, acted, after_do, after_msg}
 use Rattle.vd_execution.specs.Acts.{run_act, run_acts, ActsAreTidy}
 use Rattle.vd_execution.proofs.Front.{put_same, put_other, gadget_sound}
 use Rattle.vd_execution.specs.Deals.{IsValidDeal}
-use Rattle.vd_views.specs.Views.{LooksAlike, ActsTellAlike}
+use Rattle.vd_views.specs.Views.{Coalition, IsIn, IsOut, SameParts, LookAlike, ActsTellCoalition}
 use Rattle.vd_views.proofs.Blocks.{acts_alike}
 use Rattle.vd_views.proofs.Masks.{xor_back}
+use Rattle.vd_views.proofs.Coalitions.{in_or_out, in_at}
 use Rattle.vd_execution.specs.Gadgets.{Sharing, BySums, ByXors, Masking, Gadget, Alone, Tells, Shares, BothShare, Opens, Masked, Paired, hide, take, source_of, masking, told_by, acts_of_gadget, acts_of_gadgets, IsFresh, GadgetIsTidy, GadgetsAreTidy, IsSound}
-use Rattle.vd_views.specs.Hiding.{next_item, GadgetHides, GadgetKnows, GadgetsHide, GadgetsKnow, opened}
+use Rattle.vd_views.specs.Hiding.{next_item, HidesAlike, GadgetHides, GadgetKnows, GadgetsHide, GadgetsKnow, opened}
 
 -- ---- acts one after the other
 
@@ -131,30 +132,49 @@ second_share t a r b q heard_b w apart ne =
     ap (λ (s : Host). s.registers q.0) (put_same _ b.0 _) ∙ put_other _ heard_b.0 _ q.0 ne ∙ shared_word t b q (after_do t a.0 (action.Own r) w)
     ∙ ap (λ (s : Host). nth (t b.0 OwnWords (s.cursors OwnWords)) 0) (put_other w a.0 _ b.0 (λ e. apart (sym e)))
 
-pub gadget_tells : (h : ℕ) (t u : Tape) (r : Gadget) (w v : Hosts) → GadgetIsTidy r → IsSound w → IsSound v → LooksAlike h w v → GadgetHides h t u r w v → GadgetKnows h t u r w v → ActsTellAlike h t u (acts_of_gadget r) w v
-gadget_tells h t u (Alone g a) w v tidy sw sv l e f = (tt, tt)
-gadget_tells h t u (Tells a said b heard) w v tidy sw sv l e f = (f, tt)
-gadget_tells h t u (Shares a r b heard) w v tidy sw sv l e f =
-    (tt, ((λ i. ap (λ (x : ℕ). x ∷ []) (shared_word t a r w ∙ ap (λ (xs : List ℕ). nth xs 0) (f i) ∙ sym (shared_word u a r v))), tt))
-gadget_tells h t u (BothShare a r heard b q heard_b) w v tidy sw sv l e f = (
+-- what a host masks that is the same in both runs, with the same items, is the same
+masked_by : Sharing → Masking → ℕ → (Source → ℕ → List ℕ) → Host → List ℕ
+masked_by sharing m peer f s =
+    applied (hide sharing) (s.registers m.x.0) (nth (f (source_of sharing peer) (s.cursors (source_of sharing peer))) 0)
+    ∷ applied (hide sharing) (s.registers m.y.0) (nth (f (source_of sharing peer) (s.cursors (source_of sharing peer))) 1) ∷ []
+
+hidden_same : (t u : Tape) (sharing : Sharing) (m : Masking) (peer : ℕ) (w v : Hosts) → t m.host.0 ≡ u m.host.0 → w m.host.0 ≡ v m.host.0 → hidden t sharing m peer w ≡ hidden u sharing m peer v
+unfolding masked_by
+hidden_same t u sharing m peer w v p e = ap₂ (λ (f : Source → ℕ → List ℕ) (s : Host). masked_by sharing m peer f s) p e
+
+-- what a host of the coalition is told of the other's operands
+module _ (K : Coalition) (t u : Tape) (same : SameParts K t u) (w v : Hosts) (l : LookAlike K w v) where
+  masked_alike : (sharing : Sharing) (m n : Masking) → (IsIn K n.host.0 → IsOut K m.host.0 → HidesAlike sharing m n.host.0 t u w v) → IsIn K n.host.0 → hidden t sharing m n.host.0 w ≡ hidden u sharing m n.host.0 v
+  masked_alike sharing m n e i = at (in_or_out K m.host.0)
+    where
+      at : IsIn K m.host.0 ⊎ IsOut K m.host.0 → hidden t sharing m n.host.0 w ≡ hidden u sharing m n.host.0 v
+      at (inl j) = hidden_same t u sharing m n.host.0 w v (same m.host.0 j) (l m.host.0 j).itself
+      at (inr o) = ap₂ both (e i o).0 (e i o).1
+
+pub gadget_tells : (K : Coalition) (t u : Tape) → SameParts K t u → (r : Gadget) (w v : Hosts) → GadgetIsTidy r → IsSound w → IsSound v → LookAlike K w v → GadgetHides K t u r w v → GadgetKnows K t u r w v → ActsTellCoalition K t u (acts_of_gadget r) w v
+gadget_tells K t u same (Alone g a) w v tidy sw sv l e f h i = (tt, tt)
+gadget_tells K t u same (Tells a said b heard) w v tidy sw sv l e f h i = ((λ q. f (in_at K b.0 h q i)), tt)
+gadget_tells K t u same (Shares a r b heard) w v tidy sw sv l e f h i =
+    (tt, ((λ q. ap (λ (x : ℕ). x ∷ []) (shared_word t a r w ∙ ap (λ (xs : List ℕ). nth xs 0) (f (in_at K b.0 h q i)) ∙ sym (shared_word u a r v))), tt))
+gadget_tells K t u same (BothShare a r heard b q heard_b) w v tidy sw sv l e f h i = (
   tt,
   (
     tt,
     (
-      (λ i. ap (λ (x : ℕ). x ∷ []) (first_share t a r b q w tidy.0 ∙ ap (λ (xs : List ℕ). nth xs 0) (f.0 i) ∙ sym (first_share u a r b q v tidy.0))),
-      ((λ i. ap (λ (x : ℕ). x ∷ []) (second_share t a r b q heard_b w tidy.0 tidy.1 ∙ ap (λ (xs : List ℕ). nth xs 0) (f.1 i) ∙ sym (second_share u a r b q heard_b v tidy.0 tidy.1))), tt),
+      (λ j. ap (λ (x : ℕ). x ∷ []) (first_share t a r b q w tidy.0 ∙ ap (λ (xs : List ℕ). nth xs 0) (f.0 (in_at K b.0 h j i)) ∙ sym (first_share u a r b q v tidy.0))),
+      ((λ j. ap (λ (x : ℕ). x ∷ []) (second_share t a r b q heard_b w tidy.0 tidy.1 ∙ ap (λ (xs : List ℕ). nth xs 0) (f.1 (in_at K a.0 h j i)) ∙ sym (second_share u a r b q heard_b v tidy.0 tidy.1))), tt),
     ),
   ),
 )
-gadget_tells h t u (Opens sharing a x b y heard) w v tidy sw sv l e f = (said, tt)
+gadget_tells K t u same (Opens sharing a x b y heard) w v tidy sw sv l e f h i = (said, tt)
   where
     said : b.0 ≡ h → (w a.0).registers x.0 ∷ [] ≡ (v a.0).registers x.0 ∷ []
-    said i =
-        let P : ℕ → Type 0 = λ q. w q ≡ v q in
-        let same : w b.0 ≡ v b.0 = subst P (sym i) l.itself in
-        ap (λ (q : ℕ). q ∷ []) (cancels sharing ((w a.0).registers x.0) ((v a.0).registers x.0) ((v b.0).registers y.0) (sw.words a.0 x.0) (sv.words a.0 x.0)
-        (sym (ap (λ (s : Host). opened sharing ((w a.0).registers x.0) (s.registers y.0)) same) ∙ f i))
-gadget_tells h t u (Masked sharing m n) w v tidy sw sv l e f = (
+    said q =
+        let j : IsIn K b.0 = in_at K b.0 h q i in
+        let alike : w b.0 ≡ v b.0 = (l b.0 j).itself in
+        ap (λ (z : ℕ). z ∷ []) (cancels sharing ((w a.0).registers x.0) ((v a.0).registers x.0) ((v b.0).registers y.0) (sw.words a.0 x.0) (sv.words a.0 x.0)
+        (sym (ap (λ (s : Host). opened sharing ((w a.0).registers x.0) (s.registers y.0)) alike) ∙ f j))
+gadget_tells K t u same (Masked sharing m n) w v tidy sw sv l e f h i = (
   tt,
   (
     tt,
@@ -167,8 +187,8 @@ gadget_tells h t u (Masked sharing m n) w v tidy sw sv l e f = (
           (
             tt,
             (
-              (λ i. first_words t sharing m n w tidy.0 tidy.1.0 ∙ ap₂ both (e.0 i).0 (e.0 i).1 ∙ sym (first_words u sharing m n v tidy.0 tidy.1.0)),
-              ((λ i. second_words t sharing m n w tidy.0 tidy.1.1 ∙ ap₂ both (e.1 i).0 (e.1 i).1 ∙ sym (second_words u sharing m n v tidy.0 tidy.1.1)), tt),
+              (λ j. first_words t sharing m n w tidy.0 tidy.1.0 ∙ masked_alike K t u same w v l sharing m n e.0 (in_at K n.host.0 h j i) ∙ sym (first_words u sharing m n v tidy.0 tidy.1.0)),
+              ((λ j. second_words t sharing m n w tidy.0 tidy.1.1 ∙ masked_alike K t u same w v l sharing n m e.1 (in_at K m.host.0 h j i) ∙ sym (second_words u sharing m n v tidy.0 tidy.1.1)), tt),
             ),
           ),
         ),
@@ -176,7 +196,7 @@ gadget_tells h t u (Masked sharing m n) w v tidy sw sv l e f = (
     ),
   ),
 )
-gadget_tells h t u (Paired p q) w v tidy sw sv l e f = (tt, (tt, tt))
+gadget_tells K t u same (Paired p q) w v tidy sw sv l e f h i = (tt, (tt, tt))
 
 gadget_acts_tidy : (r : Gadget) → GadgetIsTidy r → ActsAreTidy (acts_of_gadget r)
 gadget_acts_tidy (Alone g a) tidy = (tt, tt)
@@ -187,30 +207,30 @@ gadget_acts_tidy (Opens sharing a x b y heard) tidy = ((tidy, refl), tt)
 gadget_acts_tidy (Masked sharing m n) tidy = (tt, (tt, (tt, (tt, (tt, (tt, ((tidy.0, refl), (((λ e. tidy.0 (sym e)), refl), tt))))))))
 gadget_acts_tidy (Paired p q) tidy = (tt, (tt, tt))
 
--- one gadget leaves h as it is in the other run
-pub gadget_alike : (h : ℕ) (t u : Tape) → t h ≡ u h → (r : Gadget) (w v : Hosts) → GadgetIsTidy r → IsSound w → IsSound v → LooksAlike h w v → GadgetHides h t u r w v → GadgetKnows h t u r w v
-    → LooksAlike h (run_acts t (acts_of_gadget r) w) (run_acts u (acts_of_gadget r) v)
-gadget_alike h t u same r w v tidy sw sv l e f = acts_alike h t u same (acts_of_gadget r) (gadget_acts_tidy r tidy) w v l (gadget_tells h t u r w v tidy sw sv l e f)
+-- one gadget leaves the coalition as it is in the other run
+pub gadget_alike : (K : Coalition) (t u : Tape) → SameParts K t u → (r : Gadget) (w v : Hosts) → GadgetIsTidy r → IsSound w → IsSound v → LookAlike K w v → GadgetHides K t u r w v → GadgetKnows K t u r w v
+    → LookAlike K (run_acts t (acts_of_gadget r) w) (run_acts u (acts_of_gadget r) v)
+gadget_alike K t u same r w v tidy sw sv l e f h i = acts_alike h t u (same h i) (acts_of_gadget r) (gadget_acts_tidy r tidy) w v (l h i) (gadget_tells K t u same r w v tidy sw sv l e f h i)
 
-pub gadgets_alike : (h : ℕ) (t u : Tape) → IsValidDeal t → IsValidDeal u → t h ≡ u h → (gadgets : List Gadget) → GadgetsAreTidy gadgets → (w v : Hosts) → IsSound w → IsSound v → LooksAlike h w v
-    → GadgetsHide h t u gadgets w v → GadgetsKnow h t u gadgets w v → LooksAlike h (run_acts t (acts_of_gadgets gadgets) w) (run_acts u (acts_of_gadgets gadgets) v)
-gadgets_alike h t u dt du same [] tidy w v sw sv l e f = l
-gadgets_alike h t u dt du same (g ∷ gadgets) tidy w v sw sv l e f =
-    let P : Hosts → Hosts → Type 0 = λ x y. LooksAlike h x y in
+pub gadgets_alike : (K : Coalition) (t u : Tape) → IsValidDeal t → IsValidDeal u → SameParts K t u → (gadgets : List Gadget) → GadgetsAreTidy gadgets → (w v : Hosts) → IsSound w → IsSound v → LookAlike K w v
+    → GadgetsHide K t u gadgets w v → GadgetsKnow K t u gadgets w v → LookAlike K (run_acts t (acts_of_gadgets gadgets) w) (run_acts u (acts_of_gadgets gadgets) v)
+gadgets_alike K t u dt du same [] tidy w v sw sv l e f = l
+gadgets_alike K t u dt du same (g ∷ gadgets) tidy w v sw sv l e f =
+    let P : Hosts → Hosts → Type 0 = λ x y. LookAlike K x y in
     subst₂ P (sym (run_append t (acts_of_gadget g) (acts_of_gadgets gadgets) w)) (sym (run_append u (acts_of_gadget g) (acts_of_gadgets gadgets) v))
-    (gadgets_alike h t u dt du same gadgets tidy.1 (run_acts t (acts_of_gadget g) w) (run_acts u (acts_of_gadget g) v) (gadget_sound t dt g tidy.0 w sw) (gadget_sound u du g tidy.0 v sv)
-    (gadget_alike h t u same g w v tidy.0 sw sv l e.0 f.0) e.1 f.1)
+    (gadgets_alike K t u dt du same gadgets tidy.1 (run_acts t (acts_of_gadget g) w) (run_acts u (acts_of_gadget g) v) (gadget_sound t dt g tidy.0 w sw) (gadget_sound u du g tidy.0 v sv)
+    (gadget_alike K t u same g w v tidy.0 sw sv l e.0 f.0) e.1 f.1)
 
 -- exchanged, it hides alike too
-pub gadget_back : (h : ℕ) (t u : Tape) (r : Gadget) (w v : Hosts) → GadgetHides h t u r w v → GadgetHides h u t r v w
-gadget_back h t u (Alone g a) w v e = tt
-gadget_back h t u (Tells a said b heard) w v e = tt
-gadget_back h t u (Shares a r b heard) w v e = tt
-gadget_back h t u (BothShare a r heard b q heard_b) w v e = tt
-gadget_back h t u (Opens sharing a x b y heard) w v e = tt
-gadget_back h t u (Masked sharing m n) w v e = ((λ i. (sym (e.0 i).0, sym (e.0 i).1)), (λ i. (sym (e.1 i).0, sym (e.1 i).1)))
-gadget_back h t u (Paired p q) w v e = λ i. sym (e i)
+pub gadget_back : (K : Coalition) (t u : Tape) (r : Gadget) (w v : Hosts) → GadgetHides K t u r w v → GadgetHides K u t r v w
+gadget_back K t u (Alone g a) w v e = tt
+gadget_back K t u (Tells a said b heard) w v e = tt
+gadget_back K t u (Shares a r b heard) w v e = tt
+gadget_back K t u (BothShare a r heard b q heard_b) w v e = tt
+gadget_back K t u (Opens sharing a x b y heard) w v e = tt
+gadget_back K t u (Masked sharing m n) w v e = ((λ i o. (sym (e.0 i o).0, sym (e.0 i o).1)), (λ i o. (sym (e.1 i o).0, sym (e.1 i o).1)))
+gadget_back K t u (Paired p q) w v e = λ i. sym (e i)
 
-pub gadgets_back : (h : ℕ) (t u : Tape) (gadgets : List Gadget) (w v : Hosts) → GadgetsHide h t u gadgets w v → GadgetsHide h u t gadgets v w
-gadgets_back h t u [] w v e = tt
-gadgets_back h t u (r ∷ gadgets) w v e = (gadget_back h t u r w v e.0, gadgets_back h t u gadgets (run_acts t (acts_of_gadget r) w) (run_acts u (acts_of_gadget r) v) e.1)
+pub gadgets_back : (K : Coalition) (t u : Tape) (gadgets : List Gadget) (w v : Hosts) → GadgetsHide K t u gadgets w v → GadgetsHide K u t gadgets v w
+gadgets_back K t u [] w v e = tt
+gadgets_back K t u (r ∷ gadgets) w v e = (gadget_back K t u r w v e.0, gadgets_back K t u gadgets (run_acts t (acts_of_gadget r) w) (run_acts u (acts_of_gadget r) v) e.1)

@@ -1,4 +1,5 @@
 pub mod Front
+mod Coalitions
 mod Alike
 mod Blocks
 mod Hiding
@@ -15,7 +16,6 @@ mod InARow
 mod Counts
 mod PlanBack
 mod WayBack
-mod TwoHosts
 mod Calls
 mod Product
 mod Deals
@@ -45,6 +45,7 @@ mod AnyOrder
 mod Promise
 mod Lengths
 mod Examples
+mod Strangers
 mod Lists
 mod Hosts
 mod Counted

@@ -16,7 +16,7 @@ use Rattle.vd_execution.specs.Gadgets.{BySums, ByXors, Gadget}
 use Rattle.vd_duet.specs.Builder.{taken}
 use Rattle.vd_duet.specs.Laws.{IsHost, IsReady, Copies, Operand}
 use Rattle.vd_duet.proofs.Front.{taken_other}
-use Rattle.vd_clear.specs.Copies.{clear_calls, told}
+use Rattle.vd_clear.specs.Copies.{clear_calls}
 use Rattle.vd_clear.proofs.Front.{copies_of}
 use Rattle.vd_backend_sharing.specs.PairCalls.{adopted_shares, shares_of, shared_from}
 use Rattle.vd_backend_sharing.proofs.Front.{Parts, parts_of}
@@ -30,6 +30,7 @@ use Rattle.vd_backend_laws.specs.Moves.{only}
 use Rattle.vd_backend_laws.specs.Parts.{Parts as SlotParts, has_back_end, back_end, suite_calls}
 use Rattle.vd_backend_laws.specs.Suite.{IsOver, joins}
 use Rattle.vd_backend_laws.proofs.Front.{M, S, ready_at, operand_at, sole, equal_of, in_order, ordered_differ, no_back_end, members_of_pair}
+use Rattle.vd_views.specs.Views.{Coalition, IsIn}
 use Rattle.vd_views.specs.Sides.{AreKin, Telling, HasClear}
 use Rattle.vd_views.proofs.Sides.{telling_quiet}
 use Rattle.vd_views.proofs.Ordinary.{AreOrdinary, all_quiet}
@@ -71,7 +72,7 @@ of_pair set a b o j h i = subst (λ (l : List HostId). IsHost l h) (sym (members
 
 -- ---- every move
 
-module _ (h : ℕ) (t y : Tape) (kin : AreKin h t y) (inputs others : ℕ → List ℕ) (hosts : ℕ) where
+module _ (K : Coalition) (t y : Tape) (kin : AreKin K t y) (inputs others : ℕ → List ℕ) (hosts : ℕ) where
   -- a slot's word in both runs
   pub record AreMoved (p : Proto) (x : SlotParts) (next : List ℕ) (w v : Hosts) (c d : ℕ) : Type 0 where
     pub ready : Ready (M t inputs hosts) (S t inputs hosts) next w
@@ -100,16 +101,16 @@ module _ (h : ℕ) (t y : Tape) (kin : AreKin h t y) (inputs others : ℕ → Li
         let o' = at_second (Local a) refl over refl x next w v c d moved in
         ((sole (clear_calls (Local a)) a next w x.at c refl o.stands.at o).here, (sole (clear_calls (Local a)) a next v x.at d refl o'.stands.at o').here)
 
-    from_one : (q : Proto) → has_back_end q ≡ true → (HasClear h q → c ≡ d) → Telling h t y ((suite_calls hosts).move (Local a) q x next).acts w v
-    from_one (Local k) f same = passed_tells h t y kin a (only x.at) c d (holders (Local k)) next w v held (λ i. same (alone i))
+    from_one : (q : Proto) → has_back_end q ≡ true → ((g : ℕ) → IsIn K g → HasClear g q → c ≡ d) → Telling K t y ((suite_calls hosts).move (Local a) q x next).acts w v
+    from_one (Local k) f same = passed_tells K t y kin a (only x.at) c d (holders (Local k)) next w v held (λ g m i. same g m (alone g i))
       where
-        alone : (h ≡ k.0) ⊎ ⊥ → h ≡ k.0
-        alone (inl e) = e
-        alone (inr e) = absurd e
-    from_one (Rep set) f same = passed_tells h t y kin a (only x.at) c d (holders (Rep set)) next w v held same
+        alone : (g : ℕ) → (g ≡ k.0) ⊎ ⊥ → g ≡ k.0
+        alone g (inl e) = e
+        alone g (inr e) = absurd e
+    from_one (Rep set) f same = passed_tells K t y kin a (only x.at) c d (holders (Rep set)) next w v held same
     from_one (Commit u z) f same = no_back_end f
-    from_one (Add u z) f same = telling_quiet h t y kin (shared_from BySums u z a (only x.at) next).gadgets w v (all_quiet (shared_from BySums u z a (only x.at) next).gadgets (share_ordinary BySums u z a (only x.at) next))
-    from_one (Xor u z) f same = telling_quiet h t y kin (shared_from ByXors u z a (only x.at) next).gadgets w v (all_quiet (shared_from ByXors u z a (only x.at) next).gadgets (share_ordinary ByXors u z a (only x.at) next))
+    from_one (Add u z) f same = telling_quiet K t y kin (shared_from BySums u z a (only x.at) next).gadgets w v (all_quiet (shared_from BySums u z a (only x.at) next).gadgets (share_ordinary BySums u z a (only x.at) next))
+    from_one (Xor u z) f same = telling_quiet K t y kin (shared_from ByXors u z a (only x.at) next).gadgets w v (all_quiet (shared_from ByXors u z a (only x.at) next).gadgets (share_ordinary ByXors u z a (only x.at) next))
 
   -- copies
   module _ (set : HostSet) (over : IsOver hosts (Rep set)) (x : SlotParts) (next : List ℕ) (w v : Hosts) (c d : ℕ) (moved : AreMoved (Rep set) x next w v c d) where
@@ -119,18 +120,24 @@ module _ (h : ℕ) (t y : Tape) (kin : AreKin h t y) (inputs others : ℕ → Li
     copied_too : Copies v x.at d
     copied_too = copies_of (Rep set) tt v x.at d (at_second (Rep set) refl over refl x next w v c d moved).stands
 
-    from_copies : (q : Proto) → has_back_end q ≡ true → (HasClear h q → c ≡ d) → Telling h t y ((suite_calls hosts).move (Rep set) q x next).acts w v
-    from_copies (Local k) f same = (shown_tells h t y kin c d x.at k next w v copied copied_too (λ i. same (sym i))).tells
-    from_copies (Rep other) f same = spread_tells h t y kin c d x.at (holders (Rep other)) next w v copied copied_too same
+    from_copies : (q : Proto) → has_back_end q ≡ true → ((g : ℕ) → IsIn K g → HasClear g q → c ≡ d) → Telling K t y ((suite_calls hosts).move (Rep set) q x next).acts w v
+    from_copies (Local k) f same = (shown_tells K t y kin c d x.at k next w v copied copied_too (λ i. same k.0 i refl)).tells
+    from_copies (Rep other) f same = spread_tells K t y kin c d x.at (holders (Rep other)) next w v copied copied_too same
     from_copies (Commit u z) f same = no_back_end f
     from_copies (Add u z) f same =
         let gs : List Gadget = (adopted_shares u z x.at next).gadgets in
         let ordinary : AreOrdinary gs = (tt, tt) in
-        telling_quiet h t y kin gs w v (all_quiet gs ordinary)
+        telling_quiet K t y kin gs w v (all_quiet gs ordinary)
     from_copies (Xor u z) f same =
         let gs : List Gadget = (adopted_shares u z x.at next).gadgets in
         let ordinary : AreOrdinary gs = (tt, tt) in
-        telling_quiet h t y kin gs w v (all_quiet gs ordinary)
+        telling_quiet K t y kin gs w v (all_quiet gs ordinary)
+
+  -- the word of copies at both, where either is inside
+  told_to_both : (set : HostSet) (a b : HostId) → (a.0 < b.0) × (b.0 < 8) → IsTrue (is_some (move_if (is_pair set a b) 10)) → (c d : ℕ) → ((g : ℕ) → IsIn K g → IsHost (holders (Rep set)) g → c ≡ d)
+      → IsIn K a.0 ⊎ IsIn K b.0 → c ≡ d
+  told_to_both set a b o j c d same (inl i) = same a.0 i (of_pair set a b o j a.0 (inl refl))
+  told_to_both set a b o j c d same (inr i) = same b.0 i (of_pair set a b o j b.0 (inr refl))
 
   second_low : (a b : HostId) → a.0 ≢ b.0 → (next : List ℕ) (r : ℕ) → r < slice_index next b.0 → r < slice_index (taken a 2 next) b.0
   second_low a b apart next r lt = subst (λ z. r < z) (sym (taken_other a 2 next b.0 (λ e. apart (sym e)))) lt
@@ -143,16 +150,16 @@ module _ (h : ℕ) (t y : Tape) (kin : AreKin h t y) (inputs others : ℕ → Li
     summed_too : Parts BySums a b next v (shares_of x.at) d
     summed_too = parts_of a b add_serves (add_apply a b) BySums next v x.at d (at_second (Add a b) refl over refl x next w v c d moved)
 
-    from_sums : (q : Proto) → has_back_end q ≡ true → IsTrue (joins (Add a b) q) → (HasClear h q → c ≡ d) → Telling h t y ((suite_calls hosts).move (Add a b) q x next).acts w v
+    from_sums : (q : Proto) → has_back_end q ≡ true → IsTrue (joins (Add a b) q) → ((g : ℕ) → IsIn K g → HasClear g q → c ≡ d) → Telling K t y ((suite_calls hosts).move (Add a b) q x next).acts w v
     from_sums (Local k) f j same =
-        pair_shown h t y kin BySums a b (ordered_differ a b over.ordered) (shares_of x.at) c d k (opened_to k a b j) next w v summed.word summed_too.word (λ i. same (sym i))
+        pair_shown K t y kin BySums a b (ordered_differ a b over.ordered) (shares_of x.at) c d k (opened_to k a b j) next w v summed.word summed_too.word (λ i. same k.0 i refl)
     from_sums (Rep set) f j same =
         let apart = ordered_differ a b over.ordered in
-        all_shown_tells h t y kin BySums a b apart (shares_of x.at) c d next (second_low a b apart next (shares_of x.at).second.0 summed.second_low) w v summed.word summed_too.word
-        (λ i. same (of_pair set a b (in_order a b over.ordered) j h i))
+        all_shown_tells K t y kin BySums a b apart (shares_of x.at) c d next (second_low a b apart next (shares_of x.at).second.0 summed.second_low) w v summed.word summed_too.word
+        (λ i. told_to_both set a b (in_order a b over.ordered) j c d same i)
     from_sums (Commit u z) f j same = no_back_end f
     from_sums (Add u z) f j same = λ both tidy hides. tt
-    from_sums (Xor u z) f j same = telling_quiet h t y kin (to_xor_made u z x.at next).gadgets w v (all_quiet (to_xor_made u z x.at next).gadgets (to_xor_ordinary u z x.at next))
+    from_sums (Xor u z) f j same = telling_quiet K t y kin (to_xor_made u z x.at next).gadgets w v (all_quiet (to_xor_made u z x.at next).gadgets (to_xor_ordinary u z x.at next))
 
   -- exclusive or
   module _ (a b : HostId) (over : IsOver hosts (Xor a b)) (x : SlotParts) (next : List ℕ) (w v : Hosts) (c d : ℕ) (moved : AreMoved (Xor a b) x next w v c d) where
@@ -162,30 +169,30 @@ module _ (h : ℕ) (t y : Tape) (kin : AreKin h t y) (inputs others : ℕ → Li
     xored_too : Parts ByXors a b next v (shares_of x.at) d
     xored_too = parts_of a b circuit_serves (circuit_shares a b) ByXors next v x.at d (at_second (Xor a b) refl over refl x next w v c d moved)
 
-    converted : Telling h t y (to_add_made a b x.at next).gadgets w v
+    converted : Telling K t y (to_add_made a b x.at next).gadgets w v
     converted =
         let o = at_first (Xor a b) refl over refl x next w v c d moved in
         let o' = at_second (Xor a b) refl over refl x next w v c d moved in
         let r = ready_first (Xor a b) refl over refl x next w v c d moved in
         let r' = ready_second (Xor a b) refl over refl x next w v c d moved in
-        to_add_tells a b (ordered_differ a b over.ordered) next x.at h t y kin w v (record { deal = r.deal; sound = r.sound; known = r.known }) (record { deal = r'.deal; sound = r'.sound; known = r'.known }) c d
+        to_add_tells a b (ordered_differ a b over.ordered) next x.at K t y kin w v (record { deal = r.deal; sound = r.sound; known = r.known }) (record { deal = r'.deal; sound = r'.sound; known = r'.known }) c d
         (record { below = o.below; stands = record { at = o.stands.at; word = o.stands.word } }) (record { below = o'.below; stands = record { at = o'.stands.at; word = o'.stands.word } })
 
-    from_xors : (q : Proto) → has_back_end q ≡ true → IsTrue (joins (Xor a b) q) → (HasClear h q → c ≡ d) → Telling h t y ((suite_calls hosts).move (Xor a b) q x next).acts w v
+    from_xors : (q : Proto) → has_back_end q ≡ true → IsTrue (joins (Xor a b) q) → ((g : ℕ) → IsIn K g → HasClear g q → c ≡ d) → Telling K t y ((suite_calls hosts).move (Xor a b) q x next).acts w v
     from_xors (Local k) f j same =
-        pair_shown h t y kin ByXors a b (ordered_differ a b over.ordered) (shares_of x.at) c d k (opened_to k a b j) next w v xored.word xored_too.word (λ i. same (sym i))
+        pair_shown K t y kin ByXors a b (ordered_differ a b over.ordered) (shares_of x.at) c d k (opened_to k a b j) next w v xored.word xored_too.word (λ i. same k.0 i refl)
     from_xors (Rep set) f j same =
         let apart = ordered_differ a b over.ordered in
-        all_shown_tells h t y kin ByXors a b apart (shares_of x.at) c d next (second_low a b apart next (shares_of x.at).second.0 xored.second_low) w v xored.word xored_too.word
-        (λ i. same (of_pair set a b (in_order a b over.ordered) j h i))
+        all_shown_tells K t y kin ByXors a b apart (shares_of x.at) c d next (second_low a b apart next (shares_of x.at).second.0 xored.second_low) w v xored.word xored_too.word
+        (λ i. told_to_both set a b (in_order a b over.ordered) j c d same i)
     from_xors (Commit u z) f j same = no_back_end f
     from_xors (Add u z) f j same =
         let e = same_two a b u z 210 j in
-        subst₂ (λ (m n : ℕ). Telling h t y (to_add_made (host m) (host n) x.at next).gadgets w v) e.0 e.1 converted
+        subst₂ (λ (m n : ℕ). Telling K t y (to_add_made (host m) (host n) x.at next).gadgets w v) e.0 e.1 converted
     from_xors (Xor u z) f j same = λ both tidy hides. tt
 
   pub move_tells : (p q : Proto) → has_back_end p ≡ true → has_back_end q ≡ true → IsOver hosts p → IsTrue (joins p q) → (x : SlotParts) (next : List ℕ) (w v : Hosts) (c d : ℕ) → AreMoved p x next w v c d
-      → (HasClear h q → c ≡ d) → Telling h t y ((suite_calls hosts).move p q x next).acts w v
+      → ((g : ℕ) → IsIn K g → HasClear g q → c ≡ d) → Telling K t y ((suite_calls hosts).move p q x next).acts w v
   move_tells (Local a) q e f over j x next w v c d moved same = from_one a over x next w v c d moved q f same
   move_tells (Rep set) q e f over j x next w v c d moved same = from_copies set over x next w v c d moved q f same
   move_tells (Commit u z) q e f over j x next w v c d moved same = no_back_end e

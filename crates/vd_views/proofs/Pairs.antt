@@ -17,7 +17,9 @@ use Rattle.vd_duet.specs.Builder.{next_at, taken}
 use Rattle.vd_backend_sharing.specs.declared.shares.PartRegisters.{PartRegisters}
 use Rattle.vd_backend_sharing.specs.Sharings.{join, joined}
 use Rattle.vd_backend_sharing.specs.PairCalls.{opened_by, shown_at, shown_to_both}
+use Rattle.vd_views.specs.Views.{Coalition, IsIn}
 use Rattle.vd_views.specs.Hiding.{opened}
+use Rattle.vd_views.proofs.Coalitions.{in_at}
 use Rattle.vd_views.specs.Sides.{AreKin, Telling, Each, IsQuiet}
 use Rattle.vd_views.proofs.Sides.{telling_then, telling_quiet}
 use Rattle.vd_views.proofs.Clear.{msg_other}
@@ -37,14 +39,14 @@ opened_turned ByXors p q = xor_turned p q
 abbrev pub HaveWord : Sharing → HostId → HostId → PartRegisters → ℕ → Hosts → Type 0
 HaveWord s a b x c w = joined s ((w a.0).registers x.first.0) ((w b.0).registers x.second.0) ≡ c
 
-module _ (h : ℕ) (t y : Tape) (kin : AreKin h t y) (s : Sharing) (a b : HostId) (apart : a.0 ≢ b.0) (x : PartRegisters) (c d : ℕ) where
+module _ (K : Coalition) (t y : Tape) (kin : AreKin K t y) (s : Sharing) (a b : HostId) (apart : a.0 ≢ b.0) (x : PartRegisters) (c d : ℕ) where
   -- the first host's part to the second
-  first_opens : (w v : Hosts) → HaveWord s a b x c w → HaveWord s a b x d v → (b.0 ≡ h → c ≡ d) → b.0 ≡ h
+  first_opens : (w v : Hosts) → HaveWord s a b x c w → HaveWord s a b x d v → (IsIn K b.0 → c ≡ d) → IsIn K b.0
       → opened s ((w a.0).registers x.first.0) ((w b.0).registers x.second.0) ≡ opened s ((v a.0).registers x.first.0) ((v b.0).registers x.second.0)
   first_opens w v e f same i = opened_joined s _ _ ∙ e ∙ same i ∙ sym f ∙ sym (opened_joined s _ _)
 
   -- and the second's to the first
-  second_opens : (w v : Hosts) → HaveWord s a b x c w → HaveWord s a b x d v → (a.0 ≡ h → c ≡ d) → a.0 ≡ h
+  second_opens : (w v : Hosts) → HaveWord s a b x c w → HaveWord s a b x d v → (IsIn K a.0 → c ≡ d) → IsIn K a.0
       → opened s ((w b.0).registers x.second.0) ((w a.0).registers x.first.0) ≡ opened s ((v b.0).registers x.second.0) ((v a.0).registers x.first.0)
   second_opens w v e f same i = opened_turned s _ _ ∙ e ∙ same i ∙ sym f ∙ sym (opened_turned s _ _)
 
@@ -57,37 +59,37 @@ module _ (h : ℕ) (t y : Tape) (kin : AreKin h t y) (s : Sharing) (a b : HostId
       ∙ e
 
   -- both open their parts, and then nothing is told
-  pub both_open : (r q : Reg) (gs : List Gadget) → x.second.0 ≢ r.0 → Each IsQuiet gs → (w v : Hosts) → HaveWord s a b x c w → HaveWord s a b x d v → ((a.0 ≡ h) ⊎ (b.0 ≡ h) → c ≡ d)
-      → Telling h t y (Opens s a x.first b x.second r ∷ Opens s b x.second a x.first q ∷ gs) w v
+  pub both_open : (r q : Reg) (gs : List Gadget) → x.second.0 ≢ r.0 → Each IsQuiet gs → (w v : Hosts) → HaveWord s a b x c w → HaveWord s a b x d v → (IsIn K a.0 ⊎ IsIn K b.0 → c ≡ d)
+      → Telling K t y (Opens s a x.first b x.second r ∷ Opens s b x.second a x.first q ∷ gs) w v
   both_open r q gs n quiet w v e f same =
       let w1 : Hosts = after_msg a.0 (x.first ∷ []) b.0 (r ∷ []) w in
       let v1 : Hosts = after_msg a.0 (x.first ∷ []) b.0 (r ∷ []) v in
-      telling_then h t y kin (Opens s a x.first b x.second r) (Opens s b x.second a x.first q ∷ gs) w v (λ _ _. first_opens w v e f (λ i. same (inr i)))
-      (telling_then h t y kin (Opens s b x.second a x.first q) gs w1 v1 (λ _ _. second_opens w1 v1 (heard_on r n w c e) (heard_on r n v d f) (λ i. same (inl i)))
-      (telling_quiet h t y kin gs _ _ quiet))
+      telling_then K t y kin (Opens s a x.first b x.second r) (Opens s b x.second a x.first q ∷ gs) w v (λ _ _. first_opens w v e f (λ i. same (inr i)))
+      (telling_then K t y kin (Opens s b x.second a x.first q) gs w1 v1 (λ _ _. second_opens w1 v1 (heard_on r n w c e) (heard_on r n v d f) (λ i. same (inl i)))
+      (telling_quiet K t y kin gs _ _ quiet))
 
   -- a word is shown to one of the two
-  pub shown_tells : (to : HostId) → (nat_eq to.0 a.0 ≡ false → to.0 ≡ b.0) → (next : List ℕ) (w v : Hosts) → HaveWord s a b x c w → HaveWord s a b x d v → (to.0 ≡ h → c ≡ d) → Telling h t y (shown_at s a b x to next).gadgets w v
+  pub shown_tells : (to : HostId) → (nat_eq to.0 a.0 ≡ false → to.0 ≡ b.0) → (next : List ℕ) (w v : Hosts) → HaveWord s a b x c w → HaveWord s a b x d v → (IsIn K to.0 → c ≡ d) → Telling K t y (shown_at s a b x to next).gadgets w v
   shown_tells to either next w v e f same = at (nat_eq to.0 a.0) refl
     where
       equal : nat_eq to.0 a.0 ≡ true → to.0 ≡ a.0
       equal i = grind (arith, rules)
 
-      at : (z : Bool) → nat_eq to.0 a.0 ≡ z → Telling h t y (if z then opened_by s b x.second a x.first next else opened_by s a x.first b x.second next).gadgets w v
+      at : (z : Bool) → nat_eq to.0 a.0 ≡ z → Telling K t y (if z then opened_by s b x.second a x.first next else opened_by s a x.first b x.second next).gadgets w v
       at true i =
           let r : Reg = next_at next a in
           let gs : List Gadget = Alone a (action.Apply (join s) (register (r.0 + 1)) x.first r) ∷ [] in
-          telling_then h t y kin (Opens s b x.second a x.first r) gs w v (λ _ _. second_opens w v e f (λ j. same (equal i ∙ j)))
-          (telling_quiet h t y kin gs (run_acts t (acts_of_gadget (Opens s b x.second a x.first r)) w) (run_acts y (acts_of_gadget (Opens s b x.second a x.first r)) v) (tt, tt))
+          telling_then K t y kin (Opens s b x.second a x.first r) gs w v (λ _ _. second_opens w v e f (λ j. same (in_at K to.0 a.0 (equal i) j)))
+          (telling_quiet K t y kin gs (run_acts t (acts_of_gadget (Opens s b x.second a x.first r)) w) (run_acts y (acts_of_gadget (Opens s b x.second a x.first r)) v) (tt, tt))
       at false i =
           let r : Reg = next_at next b in
           let gs : List Gadget = Alone b (action.Apply (join s) (register (r.0 + 1)) x.second r) ∷ [] in
-          telling_then h t y kin (Opens s a x.first b x.second r) gs w v (λ _ _. first_opens w v e f (λ j. same (either i ∙ j)))
-          (telling_quiet h t y kin gs (run_acts t (acts_of_gadget (Opens s a x.first b x.second r)) w) (run_acts y (acts_of_gadget (Opens s a x.first b x.second r)) v) (tt, tt))
+          telling_then K t y kin (Opens s a x.first b x.second r) gs w v (λ _ _. first_opens w v e f (λ j. same (in_at K to.0 b.0 (either i) j)))
+          (telling_quiet K t y kin gs (run_acts t (acts_of_gadget (Opens s a x.first b x.second r)) w) (run_acts y (acts_of_gadget (Opens s a x.first b x.second r)) v) (tt, tt))
 
   -- and to both
-  pub all_shown_tells : (next : List ℕ) → x.second.0 < slice_index (taken a 2 next) b.0 → (w v : Hosts) → HaveWord s a b x c w → HaveWord s a b x d v → ((a.0 ≡ h) ⊎ (b.0 ≡ h) → c ≡ d)
-      → Telling h t y (shown_to_both s a b x next).gadgets w v
+  pub all_shown_tells : (next : List ℕ) → x.second.0 < slice_index (taken a 2 next) b.0 → (w v : Hosts) → HaveWord s a b x c w → HaveWord s a b x d v → (IsIn K a.0 ⊎ IsIn K b.0 → c ≡ d)
+      → Telling K t y (shown_to_both s a b x next).gadgets w v
   all_shown_tells next low w v e f same =
       let n : ℕ = slice_index next a.0 in
       let m : ℕ = slice_index (taken a 2 next) b.0 in

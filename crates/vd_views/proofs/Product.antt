@@ -1,5 +1,5 @@
 -- The product of two shared inputs can be excused.
-use Rattle.std.proofs.Common.{◌≡◌, ℕ, zero, suc, ◌+◌, ◌*◌, ◌%◌, ◌^◌, ◌<◌, List, [], ◌∷◌, ◌++◌, inl, inr, arith, refl, sym, ap, ap₂, ◌∙◌}
+use Rattle.std.proofs.Common.{◌≡◌, ℕ, suc, ◌+◌, ◌*◌, ◌%◌, ◌^◌, ◌<◌, List, [], ◌∷◌, ◌++◌, arith, refl, sym, ap, ap₂, ◌∙◌}
 use Rattle.std.proofs.Math.Nat.{add_comm}
 use Rattle.std.specs.Prelude.{slice_index}
 use Rattle.vd_execution.specs.Registers.{put, nth}
@@ -15,8 +15,8 @@ use Rattle.vd_backend_sharing.specs.PairCalls.{shares_of, product_shares}
 use Rattle.vd_words.specs.Example.{alice}
 use Rattle.vd_views.specs.Hiding.{next_item, opened, GadgetsKnow, IsAnotherDeal}
 use Rattle.vd_views.specs.Contract.{InputWords, with_inputs, CanBeExcused, IsExplained, GoesBack}
-use Rattle.vd_views.specs.Back.{GadgetsAreWith}
-use Rattle.vd_views.proofs.InARow.{row_tidy, row_with, row_smooth, row_chooses, row_knows, know_append}
+use Rattle.vd_views.specs.Views.{Coalition}
+use Rattle.vd_views.proofs.InARow.{row_tidy, row_smooth, row_chooses, row_knows, know_append}
 use Rattle.vd_views.proofs.Contract.{explained}
 use Rattle.vd_views.proofs.WayBack.{first_again}
 use Rattle.vd_views.specs.Product.{taken_in, first_shared, second_shared, multiplied, shown, multiplication, printed, shared_product, product_plan, input_of, product_of, HaveSameProduct}
@@ -41,8 +41,8 @@ after_one w = (refl, refl)
 turned : (p q : ℕ) → (p + q) % 2 ^ 32 ≡ (q + p) % 2 ^ 32
 turned p q = ap (λ (z : ℕ). z % 2 ^ 32) (add_comm p q)
 
-module _ (h : ℕ) (t : Tape) (second : InputWords) (deal : IsValidDeal t) (others : HaveSameProduct h t second) where
-  module _ (y : Tape) (another : IsAnotherDeal h (with_inputs t second) fresh y) where
+module _ (K : Coalition) (t : Tape) (second : InputWords) (deal : IsValidDeal t) (others : HaveSameProduct K t second) where
+  module _ (y : Tape) (another : IsAnotherDeal K (with_inputs t second) fresh y) where
     -- the own words that are given away are the same
     first_own : next_item t (with_inputs_taken t) 0 OwnWords ≡ next_item y (with_inputs_taken y) 0 OwnWords
     unfolding put
@@ -84,29 +84,29 @@ module _ (h : ℕ) (t : Tape) (second : InputWords) (deal : IsValidDeal t) (othe
         ∙ first_opened
         ∙ turned ((v 0).registers parts.first.0) ((v 1).registers parts.second.0) ∙ sym (ap₂ (λ (p q : ℕ). (p + q) % 2 ^ 32) (after_one v).0 (after_one v).1)
 
-    first_known : GadgetsKnow h t y first_shared.gadgets (with_inputs_taken t) (with_inputs_taken y)
+    first_known : GadgetsKnow K t y first_shared.gadgets (with_inputs_taken t) (with_inputs_taken y)
     first_known = ((λ e. first_own), (tt, tt))
 
-    second_known : GadgetsKnow h t y second_shared.gadgets (with_one_shared t) (with_one_shared y)
+    second_known : GadgetsKnow K t y second_shared.gadgets (with_one_shared t) (with_one_shared y)
     second_known = ((λ e. second_own), (tt, tt))
 
-    product_known : GadgetsKnow h t y multiplied.gadgets (with_both_shared t) (with_both_shared y)
+    product_known : GadgetsKnow K t y multiplied.gadgets (with_both_shared t) (with_both_shared y)
     unfolding product_shares
     product_known = (tt, (tt, (tt, (tt, (tt, (tt, (tt, (tt, (tt, (tt, (tt, (tt, (tt, (tt, (tt, tt)))))))))))))))
 
-    shown_known : GadgetsKnow h t y shown.gadgets w v
+    shown_known : GadgetsKnow K t y shown.gadgets w v
     shown_known = ((λ e. first_opened), ((λ e. second_opened), (tt, (tt, tt))))
 
-    whole_known : GadgetsKnow h t y shared_product fresh fresh
+    whole_known : GadgetsKnow K t y shared_product fresh fresh
     whole_known =
-        know_append h t y taken_in (multiplication ++ printed) fresh fresh (tt, (tt, tt))
-        (know_append h t y multiplication printed (with_inputs_taken t) (with_inputs_taken y)
-        (know_append h t y first_shared.gadgets (second_shared.gadgets ++ (multiplied.gadgets ++ shown.gadgets)) (with_inputs_taken t) (with_inputs_taken y) first_known
-        (know_append h t y second_shared.gadgets (multiplied.gadgets ++ shown.gadgets) (with_one_shared t) (with_one_shared y) second_known
-        (know_append h t y multiplied.gadgets shown.gadgets (with_both_shared t) (with_both_shared y) product_known shown_known)))
+        know_append K t y taken_in (multiplication ++ printed) fresh fresh (tt, (tt, tt))
+        (know_append K t y multiplication printed (with_inputs_taken t) (with_inputs_taken y)
+        (know_append K t y first_shared.gadgets (second_shared.gadgets ++ (multiplied.gadgets ++ shown.gadgets)) (with_inputs_taken t) (with_inputs_taken y) first_known
+        (know_append K t y second_shared.gadgets (multiplied.gadgets ++ shown.gadgets) (with_one_shared t) (with_one_shared y) second_known
+        (know_append K t y multiplied.gadgets shown.gadgets (with_both_shared t) (with_both_shared y) product_known shown_known)))
         (tt, (tt, tt)))
 
-  pub product_condition : CanBeExcused h product_plan t second
+  pub product_condition : CanBeExcused K product_plan t second
   product_condition = record {
     deal = deal;
     tidy = row_tidy shared_product (whole_tidy t deal);
@@ -114,21 +114,14 @@ module _ (h : ℕ) (t : Tape) (second : InputWords) (deal : IsValidDeal t) (othe
     inputs = others.inputs;
     words = others.words;
     smooth_too = λ y a. row_smooth y shared_product fresh (whole_agrees y a.deal);
-    knows = λ y a hides. (row_chooses h t y shared_product fresh fresh, row_knows h t y shared_product fresh fresh (whole_known y a));
+    knows = λ y a hides. (row_chooses K t y shared_product fresh fresh, row_knows K t y shared_product fresh fresh (whole_known y a));
   }
 
-  pub product_explained : IsExplained h product_plan t second
-  product_explained = explained h product_plan t second product_condition
+  pub product_explained : IsExplained K product_plan t second
+  product_explained = explained K product_plan t second product_condition
 
 -- ---- the way back
 
--- all items are shared by the two
-shared_with : (h : ℕ) → h < 2 → GadgetsAreWith h shared_product
-unfolding product_shares
-shared_with zero l = (tt, (tt, (tt, (tt, (tt, (tt, (inl refl, (tt, (tt, (tt, (tt, (tt, (tt, (tt, (tt, (tt, (tt, (tt, (tt, (tt, (tt, (tt, (tt, (tt, (tt, (tt, (tt, tt)))))))))))))))))))))))))))
-shared_with (suc zero) l = (tt, (tt, (tt, (tt, (tt, (tt, (inr refl, (tt, (tt, (tt, (tt, (tt, (tt, (tt, (tt, (tt, (tt, (tt, (tt, (tt, (tt, (tt, (tt, (tt, (tt, (tt, (tt, tt)))))))))))))))))))))))))))
-shared_with (suc (suc n)) l = absurd (never n l)
-
-pub product_goes_back : (h : ℕ) → h < 2 → GoesBack h product_plan
-product_goes_back h l t first second y z valid has one two =
-    first_again h product_plan (row_tidy shared_product (whole_tidy t valid)) (row_with h shared_product (shared_with h l)) t first second y z valid has one two
+pub product_goes_back : (K : Coalition) → GoesBack K product_plan
+product_goes_back K t first second y z valid has one two =
+    first_again K product_plan (row_tidy shared_product (whole_tidy t valid)) t first second y z valid has one two

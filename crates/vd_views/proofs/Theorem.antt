@@ -1,8 +1,11 @@
--- Other inputs that agree for a host are explained to it by another deal.
-use Rattle.std.proofs.Common.{◌≡◌, ℕ, zero, suc, ◌^◌, ◌<◌, ◌≤◌, true, false, List, [], ◌∷◌, ◌++◌, inl, inr, length, drop, slice_index, refl, sym, ap, subst, ◌∙◌, arith, lit<}
+-- Other inputs that agree for a coalition are explained to it by another deal.
+use Rattle.std.proofs.Common.{◌≡◌, ℕ, zero, suc, ◌^◌, ◌<◌, ◌≤◌, ◌+◌, ◌-◌, ◌≢◌, ◌⊎◌, nat_eq, ◌||◌, true, false, List, [], ◌∷◌, ◌++◌, inl, inr, length, drop, slice_index, refl, sym, ap, subst, ◌∙◌, arith, lit<}
 use Rattle.std.specs.List.{concat, list_all}
+use Rattle.std.proofs.lemmas.Bool.{eq-eqb}
+use Rattle.std.proofs.lemmas.Bool.Decides.{eqb_tells}
+use native.Mathlib.Decide.{ℕ_discrete}
 use mathlib.Core.Path.{fun_ext}
-use Rattle.vd_base.specs.declared.ids.HostId.{HostId}
+use Rattle.vd_base.specs.HostSets.{host}
 use Rattle.vd_base.specs.declared.protocols.Proto.{Proto}
 use Rattle.vd_base.specs.Holders.{proto_in}
 use Rattle.vd_core.specs.declared.normal.NormalForm.{NormalForm}
@@ -13,8 +16,7 @@ use Rattle.vd_constraints.proofs.Front.{well_made_scoped}
 use Rattle.vd_execution.specs.Registers.{nth}
 use Rattle.vd_execution.specs.Step.{Source, Inputs, OwnWords, Triples, BitTriples, Pairs}
 use Rattle.vd_execution.specs.World.{Tape}
-use Rattle.vd_execution.specs.Deals.{IsValidDeal}
-use Rattle.vd_execution.specs.Joint.{Part, fresh, IsSmooth}
+use Rattle.vd_execution.specs.Joint.{Part, TakesPart, fresh, IsSmooth}
 use Rattle.vd_execution.specs.Gadgets.{Gadget}
 use Rattle.vd_execution.specs.Plans.{Plan, joint_of, PlanIsWithin, PlanIsTidy}
 use Rattle.vd_split.specs.Block.{Block, block_of, each}
@@ -22,7 +24,7 @@ use Rattle.vd_split.specs.Suite.{Laws}
 use Rattle.vd_split.specs.Emission.{Emitting, Emission, in_turn, stmt_emission, emitting_at_start}
 use Rattle.vd_split.specs.Outcome.{Starts}
 use Rattle.vd_split.specs.ChoreographyPlaces.{is_part}
-use Rattle.vd_split.proofs.Front.{fold_each, row_of, slots, program_within, all_fit, no_turns, tied_at_start}
+use Rattle.vd_split.proofs.Front.{fold_each, or_left, or_right, row_of, slots, program_within, all_fit, no_turns, tied_at_start}
 use Rattle.vd_backend_laws.specs.Machine.{machine}
 use Rattle.vd_backend_laws.specs.Parts.{suite_calls}
 use Rattle.vd_backend_laws.specs.Suite.{suite}
@@ -30,18 +32,18 @@ use Rattle.vd_backend_laws.specs.Whole.{inputs_of, CanRun, RunsAsToldBy}
 use Rattle.vd_backend_laws.specs.Given.{zero_deal}
 use Rattle.vd_backend_laws.proofs.Front.{zero_deals_are_valid, suite_laws, suite_places, within}
 use Rattle.vd_projection.proofs.Front.{can_run, each_has, assignments_tell_the_same}
-use Rattle.vd_views.specs.Back.{AreOfTwo}
+use Rattle.vd_views.specs.Views.{Coalition, IsIn, IsOut, alone}
 use Rattle.vd_views.specs.Hiding.{IsAnotherDeal}
 use Rattle.vd_views.specs.Hides.{Hides}
-use Rattle.vd_views.specs.Contract.{InputWords, with_inputs, HasInputs, Explains, CanBeExcused, IsExplained}
+use Rattle.vd_views.specs.Contract.{InputWords, with_inputs, GoesBack, CanBeExcused, IsExplained}
 use Rattle.vd_views.proofs.Contract.{fresh_sound, explained}
-use Rattle.vd_views.proofs.TwoHosts.{plan_with}
 use Rattle.vd_views.proofs.WayBack.{first_again}
 use Rattle.vd_noninter.specs.Reading.{start}
 use Rattle.vd_noninter_protocols.specs.Hearing.{Heard, heard_step, heard_in_order}
 use Rattle.vd_noninter_protocols.specs.Told.{IsDealt}
-use Rattle.vd_views.specs.Sides.{AreKin, Both}
-use Rattle.vd_views.specs.Explained.{IsOfTwo, plan_of, input_words, AgreeFor, OthersAreExplained, ExplainedBack}
+use Rattle.vd_views.specs.Sides.{AreKin, Both, PlanIsPlain, OwnsInSight, OnlyOutside, AreBelow}
+use Rattle.vd_views.proofs.ViewsBackendsPlans.{one_outside}
+use Rattle.vd_views.specs.Explained.{IsFree, IsCoalition, plan_of, input_words, AgreeFor, OthersAreExplained, ExplainedBack, AllButOneLook, OneOfTwoLooks}
 use Rattle.vd_views.proofs.Plain.{plan_plain}
 use Rattle.vd_views.proofs.Steps.{Static, Concluded}
 use Rattle.vd_views.proofs.ViewsProgramsBlocks.{Fitting, follows}
@@ -50,22 +52,28 @@ all_dropped : (xs : List ℕ) → drop 0 xs ≡ xs
 all_dropped [] = refl
 all_dropped (x ∷ xs) = refl
 
--- the first two hosts
-abbrev both_parts : List Part
-both_parts = (0, 0) ∷ (1, 0) ∷ []
+-- the first hosts, each with a register
+first_ones : ℕ → ℕ → List Part
+first_ones k zero = []
+first_ones k (suc n) = (k, 0) ∷ first_ones (k + 1) n
 
-among_both : (g : ℕ) → g < 2 → is_part both_parts g ≡ true
-among_both zero lt = refl
-among_both (suc zero) lt = refl
-among_both (suc (suc g)) lt = absurd (never lt)
+is_first : (k n g : ℕ) → k ≤ g → g < k + n → is_part (first_ones k n) g ≡ true
+unfolding first_ones
+is_first k zero g le lt = absurd (omega (arith, le, lt))
+is_first k (suc n) g le lt = at (is_first (k + 1) n g) (ℕ_discrete g k)
   where
-    never : suc (suc g) < 2 → ⊥
-    never lt = omega (arith, lt)
+    higher : g ≢ k → k + 1 ≤ g
+    higher d = grind (arith)
 
-both_are_two : AreOfTwo both_parts
-both_are_two k (inl e) = omega (arith, e)
-both_are_two k (inr (inl e)) = omega (arith, e)
-both_are_two k (inr (inr e)) = absurd e
+    at : (k + 1 ≤ g → g < k + 1 + n → is_part (first_ones (k + 1) n) g ≡ true) → Dec (g ≡ k) → (nat_eq g k || is_part (first_ones (k + 1) n) g) ≡ true
+    at ih (yes e) = or_left (nat_eq g k) (is_part (first_ones (k + 1) n) g) (eq-eqb g k e)
+    at ih (no d) = or_right (nat_eq g k) (is_part (first_ones (k + 1) n) g) (ih (higher d) (omega (arith, lt)))
+
+first_below : (k n g : ℕ) → TakesPart (first_ones k n) g → g < k + n
+unfolding first_ones
+first_below k zero g i = absurd i
+first_below k (suc n) g (inl e) = omega (arith, e)
+first_below k (suc n) g (inr i) = let q = first_below (k + 1) n g i in omega (arith, q)
 
 one_item : (xs : List ℕ) (v : ℕ) → length xs ≡ 1 → nth xs 0 ≡ v → xs ≡ v ∷ []
 one_item [] v e f = absurd (omega arith)
@@ -80,9 +88,9 @@ own_part h t second same (Triples p) i = refl
 own_part h t second same (BitTriples p) i = refl
 own_part h t second same (Pairs p) i = refl
 
--- ---- a program of two hosts
+-- ---- a program
 
-module _ (p : NormalForm) (l : Labels) (protocols : List Proto) (of_two : IsOfTwo p l protocols) where
+module _ (p : NormalForm) (l : Labels) (protocols : List Proto) (free : IsFree p l protocols) where
   abbrev hosts : ℕ
   hosts = length p.hosts
 
@@ -108,10 +116,10 @@ module _ (p : NormalForm) (l : Labels) (protocols : List Proto) (of_two : IsOfTw
 
   module _ (inputs : List (List ℕ)) (t : Tape) (dealt : IsDealt inputs t) where
     can : CanRun p proto inputs t
-    can = can_run p l protocols of_two.chosen inputs dealt.words t dealt.deal dealt.given
+    can = can_run p l protocols free.chosen inputs dealt.words t dealt.deal dealt.given
 
     pub runs : RunsAsToldBy p proto inputs t
-    runs = assignments_tell_the_same p l protocols of_two.chosen inputs dealt.words t dealt.deal dealt.given
+    runs = assignments_tell_the_same p l protocols free.chosen inputs dealt.words t dealt.deal dealt.given
 
     laws : Laws (machine t (inputs_of inputs)) (suite t (inputs_of inputs) (length p.hosts))
     laws = suite_laws t dealt.deal (inputs_of inputs) dealt.given (length p.hosts)
@@ -123,80 +131,89 @@ module _ (p : NormalForm) (l : Labels) (protocols : List Proto) (of_two : IsOfTw
     smooth = subst (λ (plan : Plan Gadget). IsSmooth t (joint_of plan) fresh) plan_is runs.smooth
 
     few : hosts ≤ 8
-    few = let e = of_two.hosts in omega (arith, e)
+    few = let le = can.made.limits.hosts in omega (arith, le)
 
-    within_both : PlanIsWithin both_parts (plan_of p protocols)
-    within_both =
-        within t (inputs_of inputs) both_parts (plan_of p protocols) (λ g i.
-        among_both g
-        (subst (λ z. g < z) of_two.hosts
-        (program_within (machine t (inputs_of inputs)) (suite t (inputs_of inputs) (length p.hosts)) proto laws can.over p inputs fresh can.made can.numbers refl can.valid starts
-        (suite_places t can.deal (inputs_of inputs) (length p.hosts) few) g i)))
+    parts : List Part
+    parts = first_ones 0 hosts
 
-    pub static : Static tree
-    static = record {
-      parts = both_parts;
-      two = both_are_two;
-      within = subst (PlanIsWithin both_parts) plan_is within_both;
-      tidy = subst PlanIsTidy plan_is runs.plan_tidy;
-      plain = plan_plain (length p.hosts) proto of_two.free b begin;
-    }
+    within_all : PlanIsWithin (first_ones 0 hosts) (plan_of p protocols)
+    within_all =
+        within t (inputs_of inputs) (first_ones 0 hosts) (plan_of p protocols) (λ g i.
+        is_first 0 hosts g (omega arith)
+        (let lt =
+        program_within (machine t (inputs_of inputs)) (suite t (inputs_of inputs) (length p.hosts)) proto laws can.over p inputs fresh can.made can.numbers refl can.valid starts
+        (suite_places t can.deal (inputs_of inputs) (length p.hosts) few) g i in omega (arith, lt)))
+
+    tidy : PlanIsTidy tree
+    tidy = subst PlanIsTidy plan_is runs.plan_tidy
+
+    within_tree : PlanIsWithin (first_ones 0 hosts) tree
+    within_tree = subst (PlanIsWithin (first_ones 0 hosts)) plan_is within_all
+
+    plain : PlanIsPlain tree
+    plain = plan_plain (length p.hosts) proto free.free b begin
+
+    pub static : (K : Coalition) → OwnsInSight K (plan_of p protocols) → Static K tree
+    static K sight = record { parts = first_ones 0 hosts; sight = subst (OwnsInSight K) plan_is sight; within = within_tree; tidy = tidy; plain = plain }
+
+    -- one host alone is outside
+    seen_by_others : (K : Coalition) (k : ℕ) → OnlyOutside K hosts k → OwnsInSight K (plan_of p protocols)
+    seen_by_others K k only =
+        subst (OwnsInSight K) (sym plan_is)
+        (one_outside K hosts k only (first_ones 0 hosts) (λ g i. let lt = first_below 0 hosts g i in omega (arith, lt)) tree tidy plain within_tree)
 
   -- ---- two runs
 
-  module _ (h : HostId) (h_low : h.0 < 2) (first second : List (List ℕ)) (t : Tape) (dealt : IsDealt first t) (agree : AgreeFor p l protocols h first second) where
-    own_inputs : (i : ℕ) → t h.0 Inputs i ≡ input_words second h.0 i ∷ []
-    own_inputs i = one_item (t h.0 Inputs i) (input_words second h.0 i) (dealt.deal.lengths h.0 Inputs i) (dealt.given h.0 i ∙ agree.own i)
+  module _ (K : Coalition) (together : IsCoalition p protocols K) (first second : List (List ℕ)) (t : Tape) (dealt : IsDealt first t) (agree : AgreeFor p l protocols K first second) where
+    own_inputs : (h : ℕ) → IsIn K h → (i : ℕ) → t h Inputs i ≡ input_words second h i ∷ []
+    own_inputs h m i = one_item (t h Inputs i) (input_words second h i) (dealt.deal.lengths h Inputs i) (dealt.given h i ∙ agree.own h m i)
 
-    same_part : with_inputs t (input_words second) h.0 ≡ t h.0
-    same_part = sym (fun_ext (λ s. fun_ext (λ i. own_part h.0 t (input_words second) own_inputs s i)))
+    same_part : (h : ℕ) → IsIn K h → with_inputs t (input_words second) h ≡ t h
+    same_part h m = sym (fun_ext (λ s. fun_ext (λ i. own_part h t (input_words second) (own_inputs h m) s i)))
 
-    dealt_by : (y : Tape) → IsAnotherDeal h.0 (with_inputs t (input_words second)) fresh y → IsDealt second y
+    dealt_by : (y : Tape) → IsAnotherDeal K (with_inputs t (input_words second)) fresh y → IsDealt second y
     dealt_by y another = record { words = agree.words; deal = another.deal; given = λ g i. ap (λ (xs : List ℕ). nth xs 0) (another.inputs g i) }
 
-    both : Both h.0 fresh fresh
-    both = record { first = fresh_sound; second = fresh_sound; looks = record { itself = refl; told = λ g. refl }; own = λ g. refl }
+    both : Both K fresh fresh
+    both = record { first = fresh_sound; second = fresh_sound; looks = λ h m. record { itself = refl; told = λ g. refl }; own = λ g. refl }
 
-    low : h.0 < 8
-    low = omega (arith, h_low)
-
-    known : h.0 < hosts
-    known = subst (λ z. h.0 < z) (sym of_two.hosts) h_low
+    low : (g : ℕ) → IsIn K g → g < 8
+    low g m = let lt = together.declared g m in let le = few first t dealt in omega (arith, lt, le)
 
     wrong : {X : Type 0} → false ≡ true → X
     wrong e = cc
 
     -- ---- another deal with the second inputs, by which what items hide is hidden alike
 
-    module _ (y : Tape) (another : IsAnotherDeal h.0 (with_inputs t (input_words second)) fresh y) (hidden : Hides h.0 t y tree fresh fresh) where
+    module _ (y : Tape) (another : IsAnotherDeal K (with_inputs t (input_words second)) fresh y) (hidden : Hides K t y tree fresh fresh) where
       dealt_too : IsDealt second y
       dealt_too = dealt_by y another
 
-      kin : AreKin h.0 t y
-      kin = record { first = dealt.deal; second = another.deal; part = sym (another.part ∙ same_part); own_words = λ g i. sym (another.own_words g i) }
+      kin : AreKin K t y
+      kin = record { first = dealt.deal; second = another.deal; part = λ h m. sym (another.part h m ∙ same_part h m); own_words = λ g i. sym (another.own_words g i) }
 
-      fitting : Fitting h low h_low t y kin (inputs_of first) (inputs_of second) hosts known protocols l (laws first t dealt) (laws second y dealt_too) (can first t dealt).over of_two.free b nothing_seen 0 (λ g. false)
+      fitting : Fitting K low t y kin (inputs_of first) (inputs_of second) hosts together.declared protocols l (laws first t dealt) (laws second y dealt_too) (can first t dealt).over free.free b nothing_seen 0 (λ g. false)
       fitting = record {
-        row = row_of 0 (length p.slots) (slots (block_of p.body)) (sym (ap concat (fold_each slots_step p.body)) ∙ of_two.chosen.made.in_order);
-        seen = ap (λ (s : List Seeing). (seeing_all s nothing_seen).all) (sym (fold_each seeing_step p.body)) ∙ of_two.chosen.made.made_before;
-        fits = all_fit p of_two.chosen.made of_two.chosen.numbers;
+        row = row_of 0 (length p.slots) (slots (block_of p.body)) (sym (ap concat (fold_each slots_step p.body)) ∙ free.chosen.made.in_order);
+        seen = ap (λ (s : List Seeing). (seeing_all s nothing_seen).all) (sym (fold_each seeing_step p.body)) ∙ free.chosen.made.made_before;
+        fits = all_fit p free.chosen.made free.chosen.numbers;
         placed = (can first t dealt).valid;
         placed_too = (can second y dealt_too).valid;
-        low = subst (λ n. list_all (λ x. x) (each (stmt_below n) (block_of p.body)) ≡ true) (sym (each_has p l protocols of_two.chosen))
-            (ap (list_all (λ x. x)) (sym (fold_each (stmt_below (length p.slots)) p.body)) ∙ (well_made_scoped p of_two.chosen.made).named_slots);
-        needs = λ g i. absurd (no_turns (machine t (inputs_of first)) (suite t (inputs_of first) (length p.hosts)) proto p of_two.chosen.made g i);
-        needs_too = λ g i. absurd (no_turns (machine y (inputs_of second)) (suite y (inputs_of second) (length p.hosts)) proto p of_two.chosen.made g i);
+        low = subst (λ n. list_all (λ x. x) (each (stmt_below n) (block_of p.body)) ≡ true) (sym (each_has p l protocols free.chosen))
+            (ap (list_all (λ x. x)) (sym (fold_each (stmt_below (length p.slots)) p.body)) ∙ (well_made_scoped p free.chosen.made).named_slots);
+        needs = λ g i. absurd (no_turns (machine t (inputs_of first)) (suite t (inputs_of first) (length p.hosts)) proto p free.chosen.made g i);
+        needs_too = λ g i. absurd (no_turns (machine y (inputs_of second)) (suite y (inputs_of second) (length p.hosts)) proto p free.chosen.made g i);
       }
 
-      words : heard_in_order (each (heard_step protocols h l) b) 0 (start p first) ++ [] ≡ heard_in_order (each (heard_step protocols h l) b) 0 (start p second) ++ []
-      words =
+      words : (g : ℕ) → IsIn K g → heard_in_order (each (heard_step protocols (host g) l) b) 0 (start p first) ++ [] ≡ heard_in_order (each (heard_step protocols (host g) l) b) 0 (start p second) ++ []
+      words g m =
           ap (λ (z : List ℕ). z ++ [])
-          (ap (λ (hs : List Heard). heard_in_order hs 0 (start p first)) (sym (fold_each (heard_step protocols h l) p.body)) ∙ agree.heard
-          ∙ ap (λ (hs : List Heard). heard_in_order hs 0 (start p second)) (fold_each (heard_step protocols h l) p.body))
+          (ap (λ (hs : List Heard). heard_in_order hs 0 (start p first)) (sym (fold_each (heard_step protocols (host g) l) p.body)) ∙ agree.heard g m
+          ∙ ap (λ (hs : List Heard). heard_in_order hs 0 (start p second)) (fold_each (heard_step protocols (host g) l) p.body))
 
-      concluded : Concluded h.0 t y tree fresh fresh [] []
+      concluded : Concluded K t y tree fresh fresh (λ g. []) (λ g. [])
       concluded =
-          follows h low h_low t y kin (inputs_of first) (inputs_of second) hosts known protocols l (laws first t dealt) (laws second y dealt_too) (can first t dealt).over of_two.free b nothing_seen 0 (λ g. false) fitting
+          follows K low t y kin (inputs_of first) (inputs_of second) hosts together.declared protocols l (laws first t dealt) (laws second y dealt_too) (can first t dealt).over free.free b nothing_seen 0 (λ g. false) fitting
           begin fresh fresh (start p first) (start p second) 0 refl (omega arith)
           (record {
             first = tied_at_start (machine t (inputs_of first)) (suite t (inputs_of first) (length p.hosts)) proto (length p.hosts) refl first fresh (starts first t dealt);
@@ -205,12 +222,12 @@ module _ (p : NormalForm) (l : Labels) (protocols : List Proto) (of_two : IsOfTw
             second_turn = λ g lt i. wrong i;
             both = both;
           })
-          (static first t dealt) hidden [] [] words
+          (static first t dealt K together.sight) hidden (λ g. []) (λ g. []) words
 
-    condition : CanBeExcused h.0 tree t (input_words second)
+    condition : CanBeExcused K tree t (input_words second)
     condition = record {
       deal = dealt.deal;
-      tidy = (static first t dealt).tidy;
+      tidy = tidy first t dealt;
       smooth = smooth first t dealt;
       inputs = own_inputs;
       words = agree.words;
@@ -218,13 +235,13 @@ module _ (p : NormalForm) (l : Labels) (protocols : List Proto) (of_two : IsOfTw
       knows = λ y another hidden. let c = concluded y another hidden in (c.chooses, c.knows);
     }
 
-    it_explains : IsExplained h.0 (plan_of p protocols) t (input_words second)
-    it_explains = subst (λ (plan : Plan Gadget). IsExplained h.0 plan t (input_words second)) (sym plan_is) (explained h.0 tree t (input_words second) condition)
+    it_explains : IsExplained K (plan_of p protocols) t (input_words second)
+    it_explains = subst (λ (plan : Plan Gadget). IsExplained K plan t (input_words second)) (sym plan_is) (explained K tree t (input_words second) condition)
 
 pub others_are_explained : OthersAreExplained
-others_are_explained p l protocols of_two h low first second t dealt agree = it_explains p l protocols of_two h low first second t dealt agree
+others_are_explained p l protocols free K together first second t dealt agree = it_explains p l protocols free K together first second t dealt agree
 
--- ---- the way back
+-- ---- who looks
 
 -- inputs of zeros, and zeros for all that is dealt
 pub dealt_zeros : IsDealt [] (zero_deal (inputs_of []))
@@ -233,14 +250,37 @@ dealt_zeros =
     let v = zero_deals_are_valid (inputs_of []) small in
     record { words = small; deal = v.0; given = v.1 }
 
-module _ (p : NormalForm) (l : Labels) (protocols : List Proto) (of_two : IsOfTwo p l protocols) (h : HostId) (low : h.0 < 2) (t : Tape) (first second : InputWords) (y z : Tape) (valid : IsValidDeal t) (has : HasInputs t first) where
-  again : Explains h.0 (tree p l protocols of_two) t second y → Explains h.0 (tree p l protocols of_two) y first z → (g : ℕ) (s : Source) (i : ℕ) → z g s i ≡ t g s i
-  again one two =
-      let fixed = static p l protocols of_two [] (zero_deal (inputs_of [])) dealt_zeros in
-      first_again h.0 (tree p l protocols of_two) fixed.tidy (plan_with h.0 low fixed.parts fixed.two (tree p l protocols of_two) fixed.tidy fixed.within) t first second y z valid has one two
+-- the plan is tidy, and declared hosts alone take part
+pub plan_is_tidy : (p : NormalForm) (l : Labels) (protocols : List Proto) → IsFree p l protocols → PlanIsTidy (plan_of p protocols)
+plan_is_tidy p l protocols free = (runs p l protocols free [] (zero_deal (inputs_of [])) dealt_zeros).plan_tidy
+
+pub all_declared : (p : NormalForm) (l : Labels) (protocols : List Proto) → IsFree p l protocols → (ps : List Part) × (AreBelow (length p.hosts) ps × PlanIsWithin ps (plan_of p protocols))
+all_declared p l protocols free =
+    (first_ones 0 (length p.hosts), ((λ g i. let lt = first_below 0 (length p.hosts) g i in omega (arith, lt)), within_all p l protocols free [] (zero_deal (inputs_of [])) dealt_zeros))
+
+pub all_but_one_look : AllButOneLook
+all_but_one_look p l protocols free K k only = seen_by_others p l protocols free [] (zero_deal (inputs_of [])) dealt_zeros K k only
+
+pub one_of_two_looks : OneOfTwoLooks
+one_of_two_looks p l protocols free two h low = record {
+  declared = λ g i. subst (λ n. g < n) (sym two) (at g (eqb_tells g h) i);
+  sight = all_but_one_look p l protocols free (alone h) (1 - h) (λ g lt o. other g (subst (λ n. g < n) two lt) o);
+}
+  where
+    at : (g : ℕ) → ((nat_eq g h ≡ true) × (g ≡ h)) ⊎ ((nat_eq g h ≡ false) × (g ≢ h)) → IsIn (alone h) g → g < 2
+    at g (inl e) i = let same : g ≡ h = e.1 in omega (arith, low, same)
+    at g (inr n) i = let no : true ≡ false = sym i ∙ n.0 in cc
+
+    apart : (g : ℕ) → ((nat_eq g h ≡ true) × (g ≡ h)) ⊎ ((nat_eq g h ≡ false) × (g ≢ h)) → IsOut (alone h) g → g ≢ h
+    apart g (inl e) o = let no : true ≡ false = sym e.0 ∙ o in cc
+    apart g (inr n) o = n.1
+
+    other : (g : ℕ) → g < 2 → IsOut (alone h) g → g ≡ 1 - h
+    other g lt o = let ne : g ≢ h = apart g (eqb_tells g h) o in omega (arith, lt, low, ne)
+
+-- ---- the way back
 
 pub explained_back : ExplainedBack
-explained_back p l protocols of_two h low t first second y z valid has one two =
-    let P : Plan Gadget → Type 0 = λ plan. Explains h.0 plan t second y → Explains h.0 plan y first z → (g : ℕ) (s : Source) (i : ℕ) → z g s i ≡ t g s i in
-    let all : P (plan_of p protocols) = subst P (sym (plan_is p l protocols of_two)) (again p l protocols of_two h low t first second y z valid has) in
-    all one two
+explained_back p l protocols free K t first second y z valid has one two =
+    let goes : GoesBack K (tree p l protocols free) = λ u f g v x. first_again K (tree p l protocols free) (tidy p l protocols free [] (zero_deal (inputs_of [])) dealt_zeros) u f g v x in
+    subst (λ (plan : Plan Gadget). GoesBack K plan) (sym (plan_is p l protocols free)) goes t first second y z valid has one two

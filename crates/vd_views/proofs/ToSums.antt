@@ -1,13 +1,13 @@
 -- A word that is shared by exclusive or becomes one shared by sums: what is left of it under the dealt word is opened, and hidden
 -- alike in both runs.
-use Rattle.std.proofs.Common.{◌≡◌, ◌≢◌, ℕ, ◌+◌, ◌<◌, List, [], ◌∷◌, refl, sym, ap, ap₂, subst, ◌∙◌, arith, bit_xor, length}
+use Rattle.std.proofs.Common.{◌≡◌, ◌≢◌, ℕ, ◌+◌, ◌<◌, List, [], ◌∷◌, ◌⊎◌, inl, inr, refl, sym, ap, ap₂, subst, ◌∙◌, arith, bit_xor, length}
 use Rattle.std.specs.Prelude.{slice_index}
 use Rattle.vd_base.specs.declared.ids.HostId.{HostId}
 use Rattle.vd_base.specs.declared.operations.Op.TheVariants as op
 use Rattle.vd_execution.specs.declared.instructions.Binary.TheVariants as binary
 use Rattle.vd_execution.specs.declared.instructions.Action.TheVariants as action
 use Rattle.vd_execution.specs.Registers.{Registers, put, applied, nth}
-use Rattle.vd_execution.specs.Step.{Pairs}
+use Rattle.vd_execution.specs.Step.{Source, Pairs}
 use Rattle.vd_execution.specs.Text.{register}
 use Rattle.vd_execution.specs.World.{Tape}
 use Rattle.vd_execution.specs.Joint.{Host, Hosts, acted, after_do}
@@ -25,8 +25,10 @@ use Rattle.vd_backend_sharing.specs.Gates.{gates_of}
 use Rattle.vd_bits.specs.BitCalls.{circuit_shares, computed, bit_serves, bit_calls}
 use Rattle.vd_bits.proofs.Front.{circuit_gives_few}
 use Rattle.vd_convert.specs.Convert.{pairing, drawn, finishing, finished, to_add_made}
-use Rattle.vd_views.specs.Hiding.{next_item, converted, pair_word}
-use Rattle.vd_views.specs.Sides.{AreKin, after, Telling}
+use Rattle.vd_views.specs.Views.{Coalition, IsIn, IsOut}
+use Rattle.vd_views.specs.Hiding.{next_item, converted, pair_word, GadgetHides}
+use Rattle.vd_views.proofs.Coalitions.{in_or_out, never_both}
+use Rattle.vd_views.specs.Sides.{AreKin, Both, after, Telling}
 use Rattle.vd_views.proofs.Sides.{after_acts, both_step, telling_quiet, telling_on}
 use Rattle.vd_views.proofs.Ordinary.{all_quiet, gates_ordinary}
 use Rattle.vd_views.proofs.Pairs.{HaveWord, both_open}
@@ -151,9 +153,35 @@ module _ (a b : HostId) (apart : a.0 ≢ b.0) (next : List ℕ) (x : Places) whe
           low = g.orderly.below.1.0;
         }
 
-  module _ (h : ℕ) (t y : Tape) (kin : AreKin h t y) (w v : Hosts) (ready : IsReady (bit_calls a b) t next w) (ready' : IsReady (bit_calls a b) y next v) (c d : ℕ)
+  module _ (K : Coalition) (t y : Tape) (kin : AreKin K t y) (w v : Hosts) (ready : IsReady (bit_calls a b) t next w) (ready' : IsReady (bit_calls a b) y next v) (c d : ℕ)
       (o : Operand (bit_calls a b) next w x c) (o' : Operand (bit_calls a b) next v x d) where
-    pub to_add_tells : Telling h t y (to_add_made a b x next).gadgets w v
+    -- what is opened of the word is the same, also where both hosts are inside
+    left_same : Both K w v → GadgetHides K t y (Paired first second) w v → IsIn K a.0 ⊎ IsIn K b.0
+        → applied binary.Sub (converted first second w) (pair_word first second t w) ≡ applied binary.Sub (converted first second v) (pair_word first second y v)
+    left_same both hides i = at i (in_or_out K a.0) (in_or_out K b.0)
+      where
+        inside : IsIn K a.0 → IsIn K b.0
+            → applied binary.Sub (converted first second w) (pair_word first second t w) ≡ applied binary.Sub (converted first second v) (pair_word first second y v)
+        inside p q =
+            let one : w a.0 ≡ v a.0 = (both.looks a.0 p).itself in
+            let two : w b.0 ≡ v b.0 = (both.looks b.0 q).itself in
+            let words : converted first second w ≡ converted first second v =
+            ap₂ (λ (g k : Host). bit_xor (g.registers (shares_of x).first.0) (k.registers (shares_of x).second.0)) one two in
+            let firsts : next_item t w a.0 (Pairs b.0) ≡ next_item y v a.0 (Pairs b.0) =
+            ap₂ (λ (f : Source → ℕ → List ℕ) (g : Host). f (Pairs b.0) (g.cursors (Pairs b.0))) (kin.part a.0 p) one in
+            let seconds : next_item t w b.0 (Pairs a.0) ≡ next_item y v b.0 (Pairs a.0) =
+            ap₂ (λ (f : Source → ℕ → List ℕ) (g : Host). f (Pairs a.0) (g.cursors (Pairs a.0))) (kin.part b.0 q) two in
+            ap₂ (λ (m n : ℕ). applied binary.Sub m n) words (ap₂ (λ (r s : List ℕ). bit_xor (nth r 1) (nth s 1)) firsts seconds)
+
+        at : IsIn K a.0 ⊎ IsIn K b.0 → IsIn K a.0 ⊎ IsOut K a.0 → IsIn K b.0 ⊎ IsOut K b.0
+            → applied binary.Sub (converted first second w) (pair_word first second t w) ≡ applied binary.Sub (converted first second v) (pair_word first second y v)
+        at i (inl p) (inl q) = inside p q
+        at i (inl p) (inr o) = hides (inl (p, o))
+        at i (inr o) (inl q) = hides (inr (q, o))
+        at (inl i) (inr o) (inr d) = never_both K a.0 i o
+        at (inr i) (inr o) (inr d) = never_both K b.0 i d
+
+    pub to_add_tells : Telling K t y (to_add_made a b x next).gadgets w v
     to_add_tells both tidy hides =
         let one : Rest t w c = left t w ready c o in
         let more : Rest y v d = left y v ready' d o' in
@@ -164,12 +192,12 @@ module _ (a b : HostId) (apart : a.0 ≢ b.0) (next : List ℕ) (x : Places) whe
         let l : ℕ = slice_index (taken a 3 rest.next) b.0 in
         let same_mark : l ≡ slice_index rest.next b.0 = taken_other a 3 rest.next b.0 (λ e. apart (sym e)) in (
           tt,
-          telling_on h t y kin rest.gadgets end.gadgets w1 v1 one.reached more.reached one.runs more.runs
-              (telling_quiet h t y kin rest.gadgets w1 v1 (all_quiet rest.gadgets (gates_ordinary a b (gates_of op.Sub) _ pair.next)))
-              (both_open h t y kin ByXors a b apart (shares_of rest.given) (applied binary.Sub (converted first second w) (pair_word first second t w)) (applied binary.Sub (converted first second v) (pair_word first second y v))
+          telling_on K t y kin rest.gadgets end.gadgets w1 v1 one.reached more.reached one.runs more.runs
+              (telling_quiet K t y kin rest.gadgets w1 v1 (all_quiet rest.gadgets (gates_ordinary a b (gates_of op.Sub) _ pair.next)))
+              (both_open K t y kin ByXors a b apart (shares_of rest.given) (applied binary.Sub (converted first second w) (pair_word first second t w)) (applied binary.Sub (converted first second v) (pair_word first second y v))
               (register l) (register k) (finishing a b (shares_of rest.given) pair.given.0 k l) (λ e. clash (subst (λ z. (shares_of rest.given).second.0 < z) (sym same_mark) one.low) e) (tt, (tt, (tt, tt)))
-              one.reached more.reached one.word more.word hides.0)
-              (both_step h t y kin (Paired first second) w v tidy.0 both hides.0 tt) tidy.1 hides.1,
+              one.reached more.reached one.word more.word (λ i. left_same both hides.0 i))
+              (both_step K t y kin (Paired first second) w v tidy.0 both hides.0 tt) tidy.1 hides.1,
         )
       where
         clash : {p q : ℕ} → p < q → p ≡ q → ⊥

@@ -5,6 +5,7 @@ use Rattle.vd_execution.specs.World.{Tape}
 use Rattle.vd_execution.specs.Joint.{Hosts, fresh}
 use Rattle.vd_execution.specs.Acts.{run_acts}
 use Rattle.vd_execution.specs.Gadgets.{acts_of_gadgets}
+use Rattle.vd_views.specs.Views.{alone}
 use Rattle.vd_views.specs.Contract.{InputWords, Explains}
 use Rattle.vd_views.specs.Product.{shared_product, product_plan, HaveSameProduct}
 
@@ -47,8 +48,8 @@ packets = (4294967293 ∷ []) ∷ (9 ∷ 4294967293 ∷ []) ∷ (31 ∷ []) ∷ 
 
 -- the second deal explains the other inputs to bob, who prints 42 in both runs and is told the same words by alice
 pub record WorkedProduct : Type 0 where
-  pub others : HaveSameProduct 1 first_deal second_inputs
-  pub explains : Explains 1 product_plan first_deal second_inputs second_deal
+  pub others : HaveSameProduct (alone 1) first_deal second_inputs
+  pub explains : Explains (alone 1) product_plan first_deal second_inputs second_deal
   pub prints : (end_of first_deal 1).printed ≡ 42 ∷ []
   pub prints_again : (end_of second_deal 1).printed ≡ 42 ∷ []
   pub told : (end_of first_deal 0).sent 1 ≡ packets

@@ -1,6 +1,7 @@
--- Other inputs that agree on a host's own inputs and on the clear words that come to it are explained by another deal.
+-- Other inputs that agree on the inputs of hosts that look together, and on the clear words that come to them, are explained by another
+-- deal.
 use Rattle.std.specs.Prelude.{◌≡◌, ℕ, ◌^◌, ◌<◌, true, List, length, slice_index}
-use Rattle.vd_base.specs.declared.ids.HostId.{HostId}
+use Rattle.vd_base.specs.HostSets.{host}
 use Rattle.vd_base.specs.declared.protocols.Proto.{Proto}
 use Rattle.vd_base.specs.Holders.{proto_in}
 use Rattle.vd_core.specs.declared.normal.NormalForm.{NormalForm}
@@ -11,15 +12,21 @@ use Rattle.vd_execution.specs.Plans.{Plan}
 use Rattle.vd_backend_laws.specs.Parts.{has_back_end}
 use Rattle.vd_backend_laws.specs.Whole.{plan_at, inputs_of}
 use Rattle.vd_projection.specs.Assignments.{IsValidFor}
+use Rattle.vd_views.specs.Views.{Coalition, IsIn, alone}
 use Rattle.vd_views.specs.Contract.{InputWords, IsExplained, GoesBack}
 use Rattle.vd_noninter_protocols.specs.Assigned.{heard_words}
 use Rattle.vd_noninter_protocols.specs.Told.{IsDealt}
+use Rattle.vd_views.specs.Sides.{OwnsInSight, OnlyOutside}
 
--- a program of two hosts at a valid assignment of protocols, none of them a commitment
-pub record IsOfTwo (p : NormalForm) (l : Labels) (protocols : List Proto) : Type 0 where
+-- a program at a valid assignment of protocols, none of them a commitment
+pub record IsFree (p : NormalForm) (l : Labels) (protocols : List Proto) : Type 0 where
   pub chosen : IsValidFor p l protocols
-  pub hosts : length p.hosts ≡ 2
   pub free : (x : ℕ) → has_back_end (proto_in protocols x) ≡ true
+
+-- and that program has two hosts
+pub record IsOfTwo (p : NormalForm) (l : Labels) (protocols : List Proto) : Type 0 where
+  pub free : IsFree p l protocols
+  pub hosts : length p.hosts ≡ 2
 
 -- the plan that its hosts execute together
 abbrev pub plan_of : NormalForm → List Proto → Plan Gadget
@@ -29,19 +36,32 @@ plan_of p protocols = plan_at (proto_in protocols) p
 abbrev pub input_words : List (List ℕ) → InputWords
 input_words inputs g i = slice_index (inputs_of inputs g) i
 
--- other inputs of words: h has the same, and the same clear words come to it
-pub record AgreeFor (p : NormalForm) (l : Labels) (protocols : List Proto) (h : HostId) (first second : List (List ℕ)) : Type 0 where
-  pub words : (g i : ℕ) → input_words second g i < 2 ^ 32
-  pub own : (i : ℕ) → input_words first h.0 i ≡ input_words second h.0 i
-  pub heard : heard_words p l protocols h first ≡ heard_words p l protocols h second
+-- hosts of the program that look together; own words are taken in their sight
+pub record IsCoalition (p : NormalForm) (protocols : List Proto) (K : Coalition) : Type 0 where
+  pub declared : (g : ℕ) → IsIn K g → g < length p.hosts
+  pub sight : OwnsInSight K (plan_of p protocols)
 
--- the deal that is computed along both runs is valid, with the same part for h and the same own words, and by it h sees of the
--- second inputs what it saw of the first
+-- other inputs of words: each host of the coalition has the same, and the same clear words come to it
+pub record AgreeFor (p : NormalForm) (l : Labels) (protocols : List Proto) (K : Coalition) (first second : List (List ℕ)) : Type 0 where
+  pub words : (g i : ℕ) → input_words second g i < 2 ^ 32
+  pub own : (g : ℕ) → IsIn K g → (i : ℕ) → input_words first g i ≡ input_words second g i
+  pub heard : (g : ℕ) → IsIn K g → heard_words p l protocols (host g) first ≡ heard_words p l protocols (host g) second
+
+-- one deal that is computed along both runs is valid, with the same parts for all hosts of the coalition, the same own words, and the
+-- same items among the others; and by it the coalition sees of the second inputs what it saw of the first
 abbrev pub OthersAreExplained : Type 0
 OthersAreExplained =
-    (p : NormalForm) (l : Labels) (protocols : List Proto) → IsOfTwo p l protocols → (h : HostId) → h.0 < 2 → (first second : List (List ℕ)) (t : Tape) → IsDealt first t → AgreeFor p l protocols h first second
-    → IsExplained h.0 (plan_of p protocols) t (input_words second)
+    (p : NormalForm) (l : Labels) (protocols : List Proto) → IsFree p l protocols → (K : Coalition) → IsCoalition p protocols K → (first second : List (List ℕ)) (t : Tape) → IsDealt first t → AgreeFor p l protocols K first second
+    → IsExplained K (plan_of p protocols) t (input_words second)
 
 -- and explained back, the first deal comes again
 abbrev pub ExplainedBack : Type 0
-ExplainedBack = (p : NormalForm) (l : Labels) (protocols : List Proto) → IsOfTwo p l protocols → (h : HostId) → h.0 < 2 → GoesBack h.0 (plan_of p protocols)
+ExplainedBack = (p : NormalForm) (l : Labels) (protocols : List Proto) → IsFree p l protocols → (K : Coalition) → GoesBack K (plan_of p protocols)
+
+-- where one host alone is outside, own words are taken in sight of the others
+abbrev pub AllButOneLook : Type 0
+AllButOneLook = (p : NormalForm) (l : Labels) (protocols : List Proto) → IsFree p l protocols → (K : Coalition) (k : ℕ) → OnlyOutside K (length p.hosts) k → OwnsInSight K (plan_of p protocols)
+
+-- so it is of two hosts, where one looks alone
+abbrev pub OneOfTwoLooks : Type 0
+OneOfTwoLooks = (p : NormalForm) (l : Labels) (protocols : List Proto) → IsFree p l protocols → length p.hosts ≡ 2 → (h : ℕ) → h < 2 → IsCoalition p protocols (alone h)

@@ -12,7 +12,7 @@ use Rattle.vd_execution.specs.Gadgets.{Gadget}
 use Rattle.vd_execution.specs.Plans.{Plan, joint_of}
 use Rattle.vd_machine.specs.Dealt.{counts_of}
 use Rattle.vd_world.specs.Supplies.{supply_of_files, AreFiles}
-use Rattle.vd_views.specs.Views.{LooksAlike}
+use Rattle.vd_views.specs.Views.{LooksAlike, alone}
 use Rattle.vd_views.specs.Contract.{Explains}
 use Rattle.vd_views.specs.Explained.{IsOfTwo, plan_of, input_words, AgreeFor}
 use Rattle.vd_views.specs.Lengths.{AreAll}
@@ -36,12 +36,12 @@ pub record IsExcuse (h : ℕ) (plan : Plan Gadget) (first second : List (List �
   pub enough : AreEnough plan second stored
   pub kept : slice_get stored h ≡ slice_get deals h
   pub as_long : AreAsLong deals stored
-  pub explains : Explains h plan (tape_of first deals) (input_words second) (tape_of second stored)
+  pub explains : Explains (alone h) plan (tape_of first deals) (input_words second) (tape_of second stored)
 
 abbrev pub FilesAreExplained : Type 0
 FilesAreExplained =
     (p : NormalForm) (l : Labels) (protocols : List Proto) → IsOfTwo p l protocols → (h : HostId) → h.0 < 2 → (first second : List (List ℕ)) → length second ≤ 2
-    → AgreeFor p l protocols h first second → (deals : List Deal) → AreEnough (plan_of p protocols) first deals
+    → AgreeFor p l protocols (alone h.0) first second → (deals : List Deal) → AreEnough (plan_of p protocols) first deals
     → (stored : List Deal) × IsExcuse h.0 (plan_of p protocols) first second deals stored
 
 -- files of these lengths by which h sees of these inputs what it sees of the first by these deals
@@ -55,6 +55,6 @@ pub record ShowsTheSame (h : ℕ) (plan : Plan Gadget) (first : List (List ℕ))
 abbrev pub FilesShowEquallyMany : Type 0
 FilesShowEquallyMany =
     (p : NormalForm) (l : Labels) (protocols : List Proto) → IsOfTwo p l protocols → (h : HostId) → h.0 < 2 → (first second : List (List ℕ)) → length first ≤ 2 → length second ≤ 2
-    → AgreeFor p l protocols h first second → AgreeFor p l protocols h second first → (deals : List Deal) → AreEnough (plan_of p protocols) first deals
+    → AgreeFor p l protocols (alone h.0) first second → AgreeFor p l protocols (alone h.0) second first → (deals : List Deal) → AreEnough (plan_of p protocols) first deals
     → (all : List (List Deal)) → AreAll (ShowsTheSame h.0 (plan_of p protocols) first deals first) all
     → (others : List (List Deal)) × (length others ≡ length all) × AreAll (ShowsTheSame h.0 (plan_of p protocols) first deals second) others

@@ -17,6 +17,7 @@ use Rattle.vd_backend_laws.specs.Parts.{suite_calls}
 use Rattle.vd_views.specs.Contract.{with_inputs}
 use Rattle.vd_views.specs.Example.{deal_with, inputs_with}
 use Rattle.vd_noninter_protocols.specs.Example.{alice, bob, slot, at_alice, at_bob, sums_at_both, bits_at_both}
+use Rattle.vd_views.specs.Views.{alone}
 use Rattle.vd_views.specs.Excused.{excused}
 
 abbrev pub product : List Stmt
@@ -54,10 +55,10 @@ plan_with block protocols =
 
 -- what excuses the second run to bob
 abbrev pub excuse_of : Block → Tape → ℕ → Tape
-excuse_of block t input = excused 1 t (plan_with block in_sums) (with_inputs t (inputs_with input)) fresh fresh
+excuse_of block t input = excused (alone 1) t (plan_with block in_sums) (with_inputs t (inputs_with input)) fresh fresh
 
 abbrev pub excuse_with : Block → Tape → ℕ → Tape
-excuse_with block t input = excused 1 t (plan_with block converted_once) (with_inputs t (inputs_with input)) fresh fresh
+excuse_with block t input = excused (alone 1) t (plan_with block converted_once) (with_inputs t (inputs_with input)) fresh fresh
 
 -- what bob prints, and what alice sends him, by these deals
 abbrev pub bob_prints : Block → Tape → List ℕ

@@ -1,16 +1,17 @@
-//! Two joint runs that look alike to one host. Nothing is computed here: each function's clauses are laws.
+//! Two joint runs that look alike to hosts that put together what they see. Nothing is computed here: each function's clauses are laws.
 #![tactic(auto)]
 
-ghost use Rattle.std.specs.Prelude.{◌≡◌, ◌≢◌, ◌<◌, ℕ, List, [], ◌∷◌};
+ghost use Rattle.std.specs.Prelude.{◌≡◌, ◌≢◌, ℕ, List, [], ◌∷◌};
 ghost use Rattle.vd_execution.specs.declared.instructions.Act.{Act};
 ghost use Rattle.vd_execution.specs.World.{Tape};
-ghost use Rattle.vd_execution.specs.Joint.{Part, Joint, Hosts, IsTidy};
+ghost use Rattle.vd_execution.specs.Joint.{Joint, Hosts, IsTidy};
 ghost use Rattle.vd_execution.specs.Acts.{ActsAreTidy};
 ghost use Rattle.vd_execution.specs.Gadgets.{Sharing, BySums, Masking, Gadget, GadgetsAreTidy};
-ghost use Rattle.vd_execution.specs.Plans.{Plan, PlanIsTidy, PlanIsWithin};
+ghost use Rattle.vd_execution.specs.Plans.{Plan, PlanIsTidy};
 ghost use Rattle.vd_views.specs.Claims.{AreSound, JointKeepsAlike, ActsKeepAlike, TellsFirst, GadgetsKeepAlike, GadgetsHideBack};
 ghost use Rattle.vd_views.specs.Claims.{HasExcuse, AllowsExcuse, HasViewExcuse, PlanHidesBack, IsOnlyItem, AreOnlyItems};
-ghost use Rattle.vd_views.specs.Back.{AreAlternatives, GadgetsAreWith, PlanIsWith, AreOfTwo};
+ghost use Rattle.vd_views.specs.Views.{Coalition, IsIn};
+ghost use Rattle.vd_views.specs.Back.{AreAlternatives};
 ghost use Rattle.vd_views.specs.Contract.{InputWords, CanBeExcused, IsExplained, GoesBack};
 ghost use Rattle.vd_views.specs.Items.{item_for};
 
@@ -21,36 +22,34 @@ pub fn what_a_host_sees()
     ensures acts_first { (h : ℕ) (t u : Tape) (acts : List Act) (j : Joint) → TellsFirst h t u acts j }
 {}
 
-/// Gadgets that hide alike what items hide, and tell a host the same openly, leave the host the same; exchanged, they hide
+/// Gadgets that hide alike what items hide, and tell a coalition the same openly, leave its hosts the same; exchanged, they hide
 /// alike too.
 pub fn gadgets_hide()
-    ensures alike { (h : ℕ) (t u : Tape) (gs : List Gadget) → GadgetsAreTidy gs → GadgetsKeepAlike h t u gs }
-    ensures back { (h : ℕ) (t u : Tape) (gs : List Gadget) → GadgetsHideBack h t u gs }
+    ensures alike { (K : Coalition) (t u : Tape) (gs : List Gadget) → GadgetsAreTidy gs → GadgetsKeepAlike K t u gs }
+    ensures back { (K : Coalition) (t u : Tape) (gs : List Gadget) → GadgetsHideBack K t u gs }
 {}
 
-/// For every second run there is a valid deal with the same part for the host, the same own words and the same inputs, by
-/// which what items hide is hidden alike. It is computed gadget by gadget, along both runs. Where the host then reads the same
-/// guards and is told the same openly, it sees the same as in the first run.
+/// For every coalition and second run there is one valid deal with the same parts for its hosts, the same own words and inputs, and
+/// the same items among hosts outside, by which what items hide is hidden alike. It is computed gadget by gadget, along both
+/// runs. Where the coalition then reads the same guards and is told the same openly, it sees the same as in the first run.
 pub fn every_run_has_an_excuse()
-    ensures gadgets { (h : ℕ) (t u : Tape) (gs : List Gadget) (w v : Hosts) → GadgetsAreTidy gs → AreSound t u w v →
-        HasExcuse h t u gs w v }
-    ensures views { (h : ℕ) (t u : Tape) (plan : Plan Gadget) (w v : Hosts) → PlanIsTidy plan → AllowsExcuse h t u plan w v →
-        HasViewExcuse h t u plan w v }
-    ensures from_the_start { (h : ℕ) (plan : Plan Gadget) (t : Tape) (second : InputWords) → CanBeExcused h plan t second →
-        IsExplained h plan t second }
+    ensures gadgets { (K : Coalition) (t u : Tape) (gs : List Gadget) (w v : Hosts) → GadgetsAreTidy gs → AreSound t u w v →
+        HasExcuse K t u gs w v }
+    ensures views { (K : Coalition) (t u : Tape) (plan : Plan Gadget) (w v : Hosts) → PlanIsTidy plan → AllowsExcuse K t u plan w v →
+        HasViewExcuse K t u plan w v }
+    ensures from_the_start { (K : Coalition) (plan : Plan Gadget) (t : Tape) (second : InputWords) → CanBeExcused K plan t second →
+        IsExplained K plan t second }
 {}
 
-/// Exchanged, the second deal explains the first run by the second just so, and the items that do so are the only ones. So where
-/// the host shares all items that are taken, what explains back is the first deal again; and each of two hosts does so, where no
-/// others act.
+/// Exchanged, the second deal explains the first run by the second just so, and the items that do so are the only ones. So what
+/// explains back is the first deal again.
 pub fn the_way_back()
-    ensures plan { (h : ℕ) (t u : Tape) (plan : Plan Gadget) → PlanHidesBack h t u plan }
-    ensures item { (h : ℕ) (t y z : Tape) (s : Sharing) (m : Masking) → m.host.0 ≢ h → AreAlternatives h y z → IsOnlyItem h t y z s m }
-    ensures gadgets { (h : ℕ) (t y z : Tape) (gs : List Gadget) → GadgetsAreTidy gs → GadgetsAreWith h gs → AreAlternatives h y z →
-        AreOnlyItems h t y z gs }
-    ensures deal { (h : ℕ) (plan : Plan Gadget) → PlanIsTidy plan → PlanIsWith h plan → GoesBack h plan }
-    ensures two { (h : ℕ) (ps : List Part) (plan : Plan Gadget) → h < 2 → PlanIsTidy plan → AreOfTwo ps → PlanIsWithin ps plan →
-        PlanIsWith h plan }
+    ensures plan { (K : Coalition) (t u : Tape) (plan : Plan Gadget) → PlanHidesBack K t u plan }
+    ensures item { (K : Coalition) (h : ℕ) (t y z : Tape) (s : Sharing) (m : Masking) → IsIn K h → m.host.0 ≢ h → AreAlternatives K y z →
+        IsOnlyItem h t y z s m }
+    ensures gadgets { (K : Coalition) (t y z : Tape) (gs : List Gadget) → GadgetsAreTidy gs → AreAlternatives K y z →
+        AreOnlyItems K t y z gs }
+    ensures deal { (K : Coalition) (plan : Plan Gadget) → PlanIsTidy plan → GoesBack K plan }
 {}
 
 /// The item that hides 2147483658 as the triple 1, 4, 5 hid 10, beside 2, 0, 7: the first part rises by half the words, and

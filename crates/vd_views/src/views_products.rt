@@ -1,20 +1,21 @@
-//! What a host sees of the product of two shared inputs. Nothing is computed here: each function's clauses are laws.
+//! What hosts see together of the product of two shared inputs. Nothing is computed here: each function's clauses are laws.
 
-ghost use Rattle.std.specs.Prelude.{ℕ, ◌<◌};
 ghost use Rattle.vd_execution.specs.World.{Tape};
 ghost use Rattle.vd_execution.specs.Deals.{IsValidDeal};
+ghost use Rattle.vd_views.specs.Views.{Coalition};
 ghost use Rattle.vd_views.specs.Contract.{InputWords, CanBeExcused, IsExplained, GoesBack};
 ghost use Rattle.vd_views.specs.Product.{product_plan, HaveSameProduct};
 ghost use Rattle.vd_views.specs.Example.{WorkedProduct};
 
 /// Two hosts share their inputs, multiply them, and open the product to both. Where other inputs have the same product, and the
-/// host that looks has its own again, the deal that is computed explains them to it; explained back, the first deal comes again.
+/// hosts that look have their own again, the deal that is computed explains them to these; explained back, the first deal comes
+/// again.
 pub fn a_product_can_be_excused()
-    ensures condition { (h : ℕ) (t : Tape) (second : InputWords) → IsValidDeal t → HaveSameProduct h t second →
-        CanBeExcused h product_plan t second }
-    ensures explained { (h : ℕ) (t : Tape) (second : InputWords) → IsValidDeal t → HaveSameProduct h t second →
-        IsExplained h product_plan t second }
-    ensures back { (h : ℕ) → h < 2 → GoesBack h product_plan }
+    ensures condition { (K : Coalition) (t : Tape) (second : InputWords) → IsValidDeal t → HaveSameProduct K t second →
+        CanBeExcused K product_plan t second }
+    ensures explained { (K : Coalition) (t : Tape) (second : InputWords) → IsValidDeal t → HaveSameProduct K t second →
+        IsExplained K product_plan t second }
+    ensures back { (K : Coalition) → GoesBack K product_plan }
 {}
 
 /// The product of 7 and 6, and of 2147483655 and 6: a second deal, in which the first host's triple is another, explains these

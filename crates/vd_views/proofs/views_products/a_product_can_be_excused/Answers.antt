@@ -2,10 +2,10 @@ use Rattle.vd_views.proofs.Product.{product_condition, product_explained, produc
 use Rattle.vd_views.proofs.views_products.a_product_can_be_excused.Goals as goal
 
 pub returns-clause-condition : goal.returns-clause-condition
-returns-clause-condition c = λ h t second deal others. product_condition h t second deal others
+returns-clause-condition c = λ K t second deal others. product_condition K t second deal others
 
 pub returns-clause-explained : goal.returns-clause-explained
-returns-clause-explained c = λ h t second deal others. product_explained h t second deal others
+returns-clause-explained c = λ K t second deal others. product_explained K t second deal others
 
 pub returns-clause-back : goal.returns-clause-back
-returns-clause-back c = λ h l t first second y z valid has one two. product_goes_back h l t first second y z valid has one two
+returns-clause-back c = λ K t first second y z valid has one two. product_goes_back K t first second y z valid has one two

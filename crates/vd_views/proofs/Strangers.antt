@@ -1,5 +1,7 @@
 -- Of two hosts neither shares items with itself or with a third one, and a third one takes none.
-use Rattle.std.proofs.Common.{◌≡◌, ◌≢◌, inl, inr, ℕ, ◌+◌, ◌-◌, ◌*◌, ◌<◌, ◌≤◌, nat_eq, Bool, true, false, if◌then◌else◌, List, [], ◌∷◌, Some, refl, sym, ap, subst, ◌∙◌, arith}
+use Rattle.std.proofs.Common.{◌≡◌, ◌≢◌, ◌⊎◌, inl, inr, ℕ, zero, suc, ◌+◌, ◌-◌, ◌*◌, ◌<◌, ◌≤◌, nat_eq, Bool, true, false, if◌then◌else◌, List, [], ◌∷◌, Some, refl, sym, ap, subst, ◌∙◌, arith}
+use Rattle.std.specs.Prelude.{length}
+use Rattle.std.proofs.lemmas.Bool.{eq-eqb}
 use Rattle.std.proofs.lemmas.Bool.Decides.{eqb_tells}
 use Rattle.vd_execution.specs.declared.instructions.Action.{Action}
 use Rattle.vd_execution.specs.declared.instructions.Action.TheVariants as action
@@ -13,7 +15,14 @@ use Rattle.vd_execution.specs.Gadgets.{BySums, ByXors, Gadget, Alone, Tells, Sha
 use Rattle.vd_execution.specs.Plans.{Plan, Ends, Then, Branch, Loop, joint_of, PlanIsWithin, PlanIsTidy}
 use Rattle.vd_deal_needs.specs.DealNeedsLawsNeeds.{source_of, one_of, greater, takes}
 use Rattle.vd_deal_needs.proofs.Front.{most}
-use Rattle.vd_views.specs.Back.{AreOfTwo}
+use Rattle.vd_base.specs.declared.protocols.Proto.{Proto}
+use Rattle.vd_core.specs.declared.normal.NormalForm.{NormalForm}
+use Rattle.vd_constraints.specs.declared.labels.Labels.{Labels}
+use Rattle.vd_views.specs.Views.{IsIn, alone}
+use Rattle.vd_views.specs.Sides.{AreBelow}
+use Rattle.vd_views.specs.Explained.{IsOfTwo, plan_of}
+use Rattle.vd_views.specs.Lengths.{Lengths, IsSeen, IsLongEnough}
+use Rattle.vd_views.proofs.Theorem.{plan_is_tidy, all_declared}
 
 not_same : (a b : ℕ) → a ≢ b → nat_eq a b ≡ false
 not_same a b n = elim (eqb_tells a b) [ inl p ↦ absurd (n p.1) | inr p ↦ p.0 ]
@@ -52,22 +61,22 @@ module _ (g : ℕ) (s : Source) where
       nothing n c z = omega (arith, z)
 
   abbrev GadgetsTakeNone : Type 0
-  GadgetsTakeNone = (ps : List Part) → AreOfTwo ps → (x : Gadget) → GadgetIsTidy x → ActsAreWithin ps (acts_of_gadget x) → ActsTakeNone (acts_of_gadget x)
+  GadgetsTakeNone = (ps : List Part) → AreBelow 2 ps → (x : Gadget) → GadgetIsTidy x → ActsAreWithin ps (acts_of_gadget x) → ActsTakeNone (acts_of_gadget x)
 
-  plan_takes_none : GadgetsTakeNone → (ps : List Part) → AreOfTwo ps → (plan : Plan Gadget) → PlanIsTidy plan → PlanIsWithin ps plan → takes (joint_of plan) g s ≡ 0
+  plan_takes_none : GadgetsTakeNone → (ps : List Part) → AreBelow 2 ps → (plan : Plan Gadget) → PlanIsTidy plan → PlanIsWithin ps plan → takes (joint_of plan) g s ≡ 0
   plan_takes_none each ps two Ends tidy within = refl
   plan_takes_none each ps two (Then x rest) tidy within =
       acts_take_none (acts_of_gadget x) (joint_of rest) (each ps two x tidy.0 within.0) ∙ plan_takes_none each ps two rest tidy.1 within.1
   plan_takes_none each ps two (Branch qs first other rest) tidy within =
-      let inner : AreOfTwo qs = λ k t. two k (within.0 k t) in
+      let inner : AreBelow 2 qs = λ k t. two k (within.0 k t) in
       no_greater (takes (joint_of first) g s) (takes (joint_of other) g s) (takes (joint_of rest) g s)
       (plan_takes_none each qs inner first tidy.1.0 tidy.0.1) (plan_takes_none each qs inner other tidy.1.1.0 tidy.0.2) (plan_takes_none each ps two rest tidy.1.1.1 within.1)
   plan_takes_none each ps two (Loop qs count body rest) tidy within =
-      let inner : AreOfTwo qs = λ k t. two k (within.0 k t) in
+      let inner : AreBelow 2 qs = λ k t. two k (within.0 k t) in
       no_turns count (takes (joint_of body) g s) (takes (joint_of rest) g s) (plan_takes_none each qs inner body tidy.1.1.0 tidy.0.1) (plan_takes_none each ps two rest tidy.1.1.1 within.1)
 
   -- so no run takes any
-  pub none_taken : GadgetsTakeNone → (ps : List Part) → AreOfTwo ps → (plan : Plan Gadget) → PlanIsTidy plan → PlanIsWithin ps plan → (t : Tape) → (joint t (joint_of plan) fresh g).cursors s ≤ 0
+  none_taken : GadgetsTakeNone → (ps : List Part) → AreBelow 2 ps → (plan : Plan Gadget) → PlanIsTidy plan → PlanIsWithin ps plan → (t : Tape) → (joint t (joint_of plan) fresh g).cursors s ≤ 0
   none_taken each ps two plan tidy within t =
       let e : takes (joint_of plan) g s ≡ 0 = plan_takes_none each ps two plan tidy within in
       let m : (joint t (joint_of plan) fresh g).cursors s ≤ 0 + takes (joint_of plan) g s = most t (joint_of plan) fresh g s in
@@ -79,13 +88,13 @@ module _ (g : ℕ) (s : Source) (third : 2 ≤ g) where
   not_it : (h : ℕ) → h < 2 → nat_eq g h ≡ false
   not_it h low = not_same g h (λ e. omega (arith, third, low, e))
 
-  third_acts : (ps : List Part) → AreOfTwo ps → (acts : List Act) → ActsAreWithin ps acts → ActsTakeNone g s acts
+  third_acts : (ps : List Part) → AreBelow 2 ps → (acts : List Act) → ActsAreWithin ps acts → ActsTakeNone g s acts
   third_acts ps two [] within = tt
   third_acts ps two (act.Do h a ∷ acts) within =
       (ap (λ (b : Bool). let n : ℕ = if b then one_of (source_of a) s else 0 in n) (not_it h.0 (two h.0 within.0)), third_acts ps two acts within.1)
   third_acts ps two (act.Msg a said b heard ∷ acts) within = (tt, third_acts ps two acts within.1)
 
-  pub third_takes_none : GadgetsTakeNone g s
+  third_takes_none : GadgetsTakeNone g s
   third_takes_none ps two x tidy within = third_acts ps two (acts_of_gadget x) within
 
 -- ---- a list that a host shares with another number than that of its fellow
@@ -177,7 +186,7 @@ module _ (g : ℕ) (s : Source) (strange : IsStranger g s) where
   own : (h : ℕ) → Mine h (one_of (Some OwnWords) s)
   own h = either_none g h (one_of (Some OwnWords) s) (own_none g s strange)
 
-  pub stranger_takes_none : GadgetsTakeNone g s
+  stranger_takes_none : GadgetsTakeNone g s
   stranger_takes_none ps two (Alone h a) tidy within = (either_none g h.0 (one_of (source_of a) s) (alone_none a tidy), tt)
   stranger_takes_none ps two (Tells a said b heard) tidy within = (tt, tt)
   stranger_takes_none ps two (Shares a r b heard) tidy within = (own a.0, (tt, tt))
@@ -201,3 +210,62 @@ module _ (g : ℕ) (s : Source) (strange : IsStranger g s) where
       let one : Mine p.host.0 (one_of (Some (Pairs q.host.0)) s) = shared_none g p.host.0 q.host.0 (one_of (Some (Pairs q.host.0)) s) low less tidy (pair_none g s strange q.host.0) in
       let other : Mine q.host.0 (one_of (Some (Pairs p.host.0)) s) = shared_none g q.host.0 p.host.0 (one_of (Some (Pairs p.host.0)) s) less low (λ e. tidy (sym e)) (pair_none g s strange p.host.0) in
       (one, (other, tt))
+
+-- ---- a program of two hosts
+
+pub strangers_take_none : (p : NormalForm) (l : Labels) (protocols : List Proto) → IsOfTwo p l protocols → (g : ℕ) (s : Source) → (2 ≤ g) ⊎ IsStranger g s → (t : Tape)
+    → (joint t (joint_of (plan_of p protocols)) fresh g).cursors s ≤ 0
+strangers_take_none p l protocols of_two g s who t = at who
+  where
+    declared : (ps : List Part) × (AreBelow (length p.hosts) ps × PlanIsWithin ps (plan_of p protocols))
+    declared = all_declared p l protocols of_two.free
+
+    two : AreBelow 2 declared.0
+    two = subst (λ n. AreBelow n declared.0) of_two.hosts declared.1.0
+
+    at : (2 ≤ g) ⊎ IsStranger g s → (joint t (joint_of (plan_of p protocols)) fresh g).cursors s ≤ 0
+    at (inl high) = none_taken g s (third_takes_none g s high) declared.0 two (plan_of p protocols) (plan_is_tidy p l protocols of_two.free) declared.1.1 t
+    at (inr strange) = none_taken g s (stranger_takes_none g s strange) declared.0 two (plan_of p protocols) (plan_is_tidy p l protocols of_two.free) declared.1.1 t
+
+pub below_two : (g : ℕ) → (g < 2) ⊎ (2 ≤ g)
+below_two zero = inl (omega arith)
+below_two (suc zero) = inl (omega arith)
+below_two (suc (suc g)) = inr (omega arith)
+
+-- a run that takes no item past the end of a list that counts for one of them takes none past the end of any
+module _ (p : NormalForm) (l : Labels) (protocols : List Proto) (of_two : IsOfTwo p l protocols) (h : ℕ) (low : h < 2) (n : Lengths) (y : Tape) (long : IsLongEnough (alone h) n (plan_of p protocols) y) where
+  abbrev IsWithin : ℕ → Source → Type 0
+  IsWithin g s = (joint y (joint_of (plan_of p protocols)) fresh g).cursors s ≤ n g s
+
+  takes_none : (g : ℕ) (s : Source) → (2 ≤ g) ⊎ IsStranger g s → IsWithin g s
+  takes_none g s who = let z : (joint y (joint_of (plan_of p protocols)) fresh g).cursors s ≤ 0 = strangers_take_none p l protocols of_two g s who y in omega (arith, z)
+
+  one_looks : (g q : ℕ) → g < 2 → q ≡ 1 - g → IsIn (alone h) g ⊎ IsIn (alone h) q
+  one_looks g q less e = at (eqb_tells g h)
+    where
+      at : ((nat_eq g h ≡ true) × (g ≡ h)) ⊎ ((nat_eq g h ≡ false) × (g ≢ h)) → IsIn (alone h) g ⊎ IsIn (alone h) q
+      at (inl same) = inl same.0
+      at (inr differ) = inr (eq-eqb q h (let apart : g ≢ h = differ.1 in omega (arith, less, low, e, apart)))
+
+  of_kind : (g q : ℕ) (s : Source) → (q ≢ 1 - g → IsStranger g s) → (IsIn (alone h) g ⊎ IsIn (alone h) q → IsSeen (alone h) g s) → IsWithin g s
+  of_kind g q s strange counts = at (below_two g) (eqb_tells q (1 - g))
+    where
+      at : (g < 2) ⊎ (2 ≤ g) → ((nat_eq q (1 - g) ≡ true) × (q ≡ 1 - g)) ⊎ ((nat_eq q (1 - g) ≡ false) × (q ≢ 1 - g)) → IsWithin g s
+      at (inr high) with_it = takes_none g s (inl high)
+      at (inl less) (inl same) = long.takes g s (counts (one_looks g q less same.1))
+      at (inl less) (inr differ) = takes_none g s (inr (strange differ.1))
+
+  pub all_within : (g : ℕ) (s : Source) → s ≢ Inputs → IsWithin g s
+  all_within g Inputs not = absurd (not refl)
+  all_within g OwnWords not = long.takes g OwnWords tt
+  all_within g (Triples q) not = of_kind g q (Triples q) (λ e. e) (λ x. x)
+  all_within g (BitTriples q) not = of_kind g q (BitTriples q) (λ e. e) (λ x. x)
+  all_within g (Pairs q) not = of_kind g q (Pairs q) (λ e. e) (λ x. x)
+
+-- what counts is no input
+pub seen_item : (h g : ℕ) (s : Source) → IsSeen (alone h) g s → s ≢ Inputs
+seen_item h g Inputs x = absurd x
+seen_item h g OwnWords x = λ e. cc
+seen_item h g (Triples q) x = λ e. cc
+seen_item h g (BitTriples q) x = λ e. cc
+seen_item h g (Pairs q) x = λ e. cc
