@@ -51,3 +51,4 @@ mod Hosts
 mod Counted
 mod Files
 mod Programs
+mod OnTheWay

@@ -18,3 +18,4 @@ pub mod Lengths
 pub mod ViewsProgramsExample
 pub mod Files
 pub mod ReadOff
+pub mod OnTheWay

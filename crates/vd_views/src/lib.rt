@@ -61,12 +61,14 @@ pub fn worked_item()
 mod equivocation_pairs;
 mod views_backends;
 mod views_deals;
+mod views_lengths;
 mod views_products;
 mod views_programs;
 
 pub use equivocation_pairs::pairs_are_read_off;
 pub use views_backends::quiet_gadgets_tell_the_same;
 pub use views_deals::deal_files_belong_to_each_other;
+pub use views_lengths::lengths_tell_ways_alone;
 pub use views_products::{a_product_can_be_excused, worked_product};
 pub use views_programs::{
     any_order_looks_alike, deals_belong_to_each_other, other_inputs_have_an_excuse,
