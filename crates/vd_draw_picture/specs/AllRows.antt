@@ -7,13 +7,14 @@ use Rattle.vd_draw_layout.specs.declared.draw_svg.marks.Mark.{Mark}
 use Rattle.vd_draw_layout.specs.declared.draw_svg.marks.Mark.TheVariants as mark
 use Rattle.vd_draw_rows.specs.declared.row.Line.{Line}
 use Rattle.vd_draw_rows.specs.declared.row.Row.{Row}
+use Rattle.vd_draw_rows.specs.Wire.{is_seen_on_the_way}
 use Rattle.vd_draw_layout.specs.declared.lanes.Lane.{Lane}
 use Rattle.vd_draw_layout.specs.declared.layout.Layout.{Layout}
 use Rattle.vd_draw_picture.specs.declared.all_rows.Run.{Run}
 use Rattle.vd_draw_picture.specs.Arrows.{at}
 use Rattle.vd_draw_picture.specs.Heads.{head_marks}
 use Rattle.vd_draw_layout.specs.Numbers.{plus, cost_of}
-use Rattle.vd_draw_picture.specs.RowMarks.{has_names, height_above, height_inside, is_other_line, line_behind, names_height, next_last, next_number, row_marks, row_x, whole_height}
+use Rattle.vd_draw_picture.specs.RowMarks.{has_names, height_above, height_inside, is_other_line, line_behind, names_height, next_last, next_number, row_marks, row_x, small, whole_height}
 use Rattle.vd_draw_layout.specs.Runs.{goes_on}
 use Rattle.vd_draw_layout.specs.Titles.{row_title}
 use Rattle.vd_draw_layout.specs.Words.{cut, number_text}
@@ -49,6 +50,14 @@ names_above g hosts y number = if has_names number then names_marks hosts y g.la
 abbrev pub above_marks : Layout → List (List ℕ) → ℕ → ℕ → ℕ → Row → List Mark
 above_marks g hosts y number last row = names_above g hosts y number ++ line_above g (plus y (names_height number)) last row
 
+-- ---- a branch in which hosts send: who is on the way sees which way it goes
+
+unfoldable pub way_said : List ℕ
+way_said = codes "seen on the way"
+
+abbrev pub way_marks : Layout → Row → List Row → List Mark
+way_marks g row rest = if is_seen_on_the_way row rest then small g.label_x way_said ∷ [] else []
+
 -- ---- rows that are drawn as one: how many, what they cost, and their titles
 
 abbrev pub no_run : Run
@@ -64,7 +73,7 @@ module _ (g : Layout) (hosts : List (List ℕ)) (slots : List Slot) (labels : Li
       let inside = height_inside row.depth (plus number 1) (line_behind last row.line) rest in
       mark.Group (plus y (height_above number last row)) run.title
       ∷ row_marks g hosts slots labels number inside (run.count - 1) run.cost row
-      ++ mark.End ∷ []
+      ++ way_marks g row rest ++ mark.End ∷ []
 
   abbrev pub run_marks : ℕ → ℕ → ℕ → Run → Row → List Row → List Mark
   run_marks y number last run row rest = above_marks g hosts y number last row ++ group_marks y number last run row rest

@@ -15,7 +15,7 @@ use vd_base::{Bytes, Names};
 use vd_draw_layout::{
     Lane, Layout, Mark, Place, Style, cost_of, cut, goes_on, push_number, push_row_title,
 };
-use vd_draw_rows::{Line, Row};
+use vd_draw_rows::{Line, Row, is_seen_on_the_way};
 
 /// Rows that are drawn as one: how many, what they cost, and their titles.
 #[derive(Drop)]
@@ -172,6 +172,35 @@ fn push_above(
     push_source_line(alloc, marks, scene.layout, below, at.last, row)
 }
 
+/// What is said of a branch in which hosts send.
+#[tactic(auto, unfolding(crate::specs::AllRows::way_said))]
+fn way_said() -> &'static [u8]
+    ensures { result.now ≡ rows_spec.way_said }
+{
+    b"seen on the way"
+}
+
+/// Adds that who is on the way sees which way a branch goes, where hosts send in it.
+fn push_way(
+    alloc: Global,
+    marks: &mut Marks,
+    layout: &Layout,
+    row: &Row,
+    rest: &[Row],
+) -> Result<(), AllocError>
+    ensures { OnOk result (marks.new ≡ marks.old ++ rows_spec.way_marks layout.now row.now rest.now) }
+{
+    if is_seen_on_the_way(row, rest) {
+        let said = Bytes::from_slice(alloc, way_said())?;
+        let place = Place {
+            x: layout.label_x,
+            y: 15,
+        };
+        marks.push(Mark::Text(Style::Small, place, said))?;
+    }
+    Ok(())
+}
+
 /// Adds a row with those before it that are drawn with it.
 fn push_group(
     alloc: Global,
@@ -202,6 +231,7 @@ fn push_group(
         cost,
         row,
     )?;
+    push_way(alloc, marks, scene.layout, row, rest)?;
     marks.push(Mark::End)
 }
 

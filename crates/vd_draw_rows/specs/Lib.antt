@@ -4,3 +4,4 @@ pub mod Moves
 pub mod Rows
 pub mod Parts
 pub mod Costs
+pub mod Wire

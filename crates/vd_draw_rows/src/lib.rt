@@ -9,6 +9,7 @@ mod parts;
 mod row;
 mod rows;
 mod texts;
+mod wire;
 
 pub use laws::costs_add_up;
 pub use lines::is_printable;
@@ -16,3 +17,4 @@ pub use moves::{arrow_of, is_seen, is_told};
 pub use row::{Arrow, Kind, Line, Move, Row};
 pub use rows::rows_of;
 pub use texts::slot_name;
+pub use wire::is_seen_on_the_way;
