@@ -193,6 +193,7 @@ host("the same deal after it met nobody", 1, [began + [word]], [said], out=DONE,
 host("a mark that cannot be taken back", 1, [], [], status=18, err="peer fault alice", released=True, fails=["marks 2"])
 host("the same deal after a mark that stays", 1, [began + [word]], [], out=(), status=33, err="deal used d", extra=["keep"], files=[], net=[])
 host("a listen that fails", 0, [came], [], out=(), status=18, err="peer fault bob", released=True, fails=["net 0"], net=["listen A"])
+host("a wait at a listener that fails", 0, [came], [], status=18, err="peer fault bob", released=True, fails=["net 1"])
 host("a packet that is not sent", 0, [came], [went[:3]], status=18, err="peer fault bob", fails=["link 12"])
 host("a greeting that is not sent", 0, [came], [went[:2]], status=18, err="peer fault bob", fails=["link 8"], released=True)
 host("a hello that is not sent", 1, [began + [word]], [[]], status=18, err="peer fault alice", fails=["link 0"], released=True)
@@ -228,20 +229,17 @@ refused("the own record back", began + [bob.record(2, PACKET)], said)
 refused("a packet that is not covered", began + [PACKET], said)
 refused("a record of 129 bytes", began + [b"\x58\x81" + word[2:]], said)
 
-# a host that listens takes the next who comes
+# a host that listens says nothing to who says no hello of its dealing, and takes the next who comes
 strangers = [[b"GET / HTTP/1.0\r\n\r\n"], [b"\x47\x01" + PLAN + b"\x01\x00"], [Side(1, 0, nonce_of=b"\xb1" * 32, counts=(2, 1, 0, 0, 0)).hello], [Side(0, 1, nonce_of=b"\xb1" * 32).hello], []]
-hellos = []
-for number, stranger in enumerate(strangers):
-    mine = Side(0, 1, seed=DRAWN, number=number)
-    hellos.append([mine.hello])
-mine = Side(0, 1, seed=DRAWN, number=5)
+hellos = [[] for _ in strangers]
+mine = Side(0, 1, seed=DRAWN)
 knows = Side(1, 0, nonce_of=b"\xb1" * 32)
 knows.link = b"\x00" * 32
 knows.meet(mine)
 mine.meet(Side(1, 0, nonce_of=b"\xb1" * 32))
 strangers.append([knows.hello, knows.record(0)])
 hellos.append([mine.hello, mine.record(0)])
-last, peer = pair(0, 1, number=6)
+last, peer = pair(0, 1, number=1)
 strangers.append([peer.hello, peer.record(0), peer.greeting()])
 hellos.append([last.hello, last.record(0), last.greeting(), last.record(2, PACKET)])
 host("strangers before the peer", 0, strangers, hellos, out=("listening", "ended"))
