@@ -9,7 +9,7 @@ use Rattle.vd_execution.specs.Step.{words_in, need_of_action}
 use Rattle.vd_execution.specs.World.{Tape}
 use Rattle.vd_execution.specs.Joint.{Joint, Host, Hosts, acted, supplied, said_to, has_heard, IsTidy, joint}
 use Rattle.vd_execution.proofs.Front.{same_or_not, put_same, put_other}
-use Rattle.vd_reorder.specs.ReorderLawsTesting.{is_simple, reads, writes, meet}
+use Rattle.vd_reorder.specs.ReorderLawsTesting.{reads, writes, meet}
 use Rattle.vd_reorder.proofs.Front.{words_stay, apart, kept_words}
 use Rattle.vd_reorder.specs.Turning.{Turn, Does, Tells, gone_by, Look, look, AreAlike, MayTurn, IsTurned, then_goes, with_joint}
 use Rattle.vd_choreography_reorder.specs.Testing.{Opened, may_turn, is_beside, are_beside}
@@ -26,14 +26,14 @@ use Rattle.vd_choreography_reorder.proofs.Mail.{words_told, added, counting, Sam
 elsewhere : (t : Tape) (h : ℕ) (a : Action) (w : Hosts) (from : ℕ) (said : List Reg) → from ≢ h → words_in (gone_by t (Does h a) w from).registers said ≡ words_in (w from).registers said
 elsewhere t h a w from said ne = ap (λ (s : Host). words_in s.registers said) (put_other w h (acted (t h) a (w h)) from ne)
 
-after_act : (t : Tape) (h : ℕ) (a : Action) (w : Hosts) (from : ℕ) (said : List Reg) → is_simple a ≡ true → (not (nat_eq h from) || not (meet said (writes a))) ≡ true
+after_act : (t : Tape) (h : ℕ) (a : Action) (w : Hosts) (from : ℕ) (said : List Reg) → (not (nat_eq h from) || not (meet said (writes a))) ≡ true
     → words_in (gone_by t (Does h a) w from).registers said ≡ words_in (w from).registers said
-after_act t h a w from said simple e =
+after_act t h a w from said e =
     elim (same_or_not from h) [
       | inl same ↦
           ap (λ k. words_in (gone_by t (Does h a) w k).registers said) same
           ∙ ap (λ (s : Host). words_in s.registers said) (put_same w h (acted (t h) a (w h)))
-          ∙ kept_words a said simple (apart said (writes a) (then_not (nat_eq h from) (meet said (writes a)) e (eq-eqb h from (sym same)))) (w h).registers
+          ∙ kept_words a said (apart said (writes a) (then_not (nat_eq h from) (meet said (writes a)) e (eq-eqb h from (sym same)))) (w h).registers
           (supplied (t h) (w h).cursors (need_of_action (w h).registers a))
           ∙ ap (λ k. words_in (w k).registers said) (sym same)
       | inr ne ↦ elsewhere t h a w from said ne
@@ -60,10 +60,9 @@ after_message t a said b heard w c says e =
 told_late : (t : Tape) (x y : Turn) (w : Hosts) → may_turn x y ≡ true → words_told y (gone_by t x w) ≡ words_told y w
 told_late t x (Does h b) w e = refl
 told_late t (Does h a) (Tells from said to heard) w e =
-    let p = both (is_simple a && not (nat_eq from to)) _ e in
-    let s = both (is_simple a) (not (nat_eq from to)) p.0 in
+    let p = both (not (nat_eq from to)) _ e in
     let q = both (not (nat_eq h from) || not (meet said (writes a))) _ p.1 in
-    after_act t h a w from said s.0 q.0
+    after_act t h a w from said q.0
 told_late t (Tells a said b heard) (Tells c says d hears) w e =
     let p = both (not (nat_eq a b) && not (nat_eq c d)) _ e in
     let q = both (not (nat_eq b c) || not (meet says heard)) _ p.1 in
@@ -72,10 +71,9 @@ told_late t (Tells a said b heard) (Tells c says d hears) w e =
 told_early : (t : Tape) (x y : Turn) (w : Hosts) → may_turn x y ≡ true → words_told x (gone_by t y w) ≡ words_told x w
 told_early t (Does h a) y w e = refl
 told_early t (Tells from said to heard) (Does h a) w e =
-    let p = both (is_simple a && not (nat_eq from to)) _ e in
-    let s = both (is_simple a) (not (nat_eq from to)) p.0 in
+    let p = both (not (nat_eq from to)) _ e in
     let q = both (not (nat_eq h from) || not (meet said (writes a))) _ p.1 in
-    after_act t h a w from said s.0 q.0
+    after_act t h a w from said q.0
 told_early t (Tells a said b heard) (Tells c says d hears) w e =
     let p = both (not (nat_eq a b) && not (nat_eq c d)) _ e in
     let q = both (not (nat_eq b c) || not (meet says heard)) _ p.1 in

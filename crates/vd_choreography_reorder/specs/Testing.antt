@@ -6,15 +6,15 @@ use Rattle.vd_execution.specs.declared.instructions.Action.{Action}
 use Rattle.vd_reorder.specs.ReorderLawsTesting.{is_simple, reads, writes, meet, both_may}
 use Rattle.vd_reorder.specs.Turning.{Turn, Does, Tells, MayTurn}
 
--- two acts of one host that print and compare nothing and do not need each other
+-- two acts of one host that do not need each other, of which at most one prints or compares
 abbrev pub acts_apart : Action → Action → Bool
-acts_apart a b = (is_simple a && is_simple b) && both_may a b
+acts_apart a b = (is_simple a || is_simple b) && both_may a b
 
--- An act of a host that prints and compares nothing, and a message: where the host sends it, the act leaves the words that are told, and
--- where the host receives it, the act neither reads nor writes the registers that are filled.
+-- An act of a host, and a message: where the host sends it, the act leaves the words that are told, and where the host receives it, the act
+-- neither reads nor writes the registers that are filled.
 abbrev pub is_beside : ℕ → Action → ℕ → List Reg → ℕ → List Reg → Bool
 is_beside h a from said to heard =
-    (is_simple a && not (nat_eq from to))
+    not (nat_eq from to)
     && ((not (nat_eq h from) || not (meet said (writes a))) && (not (nat_eq h to) || (not (meet (reads a) heard) && not (meet (writes a) heard))))
 
 -- two messages: none fills a register that the other sends, and at one receiver they fill different ones

@@ -11,11 +11,11 @@ use vd_base::{HostId, Items};
 use vd_execution::{Act, Action, Line, Reg};
 use vd_reorder::{any_among, both_may, have_common, is_simple, read_by, written_by};
 
-/// Whether two actions of one host print and compare nothing, and do not need each other.
+/// Whether two actions of one host do not need each other, and at most one of them prints or compares.
 fn acts_apart(first: &Action, second: &Action) -> bool
     ensures { result ≡ testing.acts_apart first.now second.now }
 {
-    is_simple(first) && is_simple(second) && both_may(first, second)
+    (is_simple(first) || is_simple(second)) && both_may(first, second)
 }
 
 /// Whether an act of a host and a message do not need each other.
@@ -30,7 +30,7 @@ fn is_beside(
     ensures { result ≡ testing.is_beside host.0 action.now from.0 said.now to.0 heard.now }
 {
     let written = written_by(action);
-    (is_simple(action) && from.0 != to.0)
+    from.0 != to.0
         && ((host.0 != from.0 || !any_among(said, written))
             && (host.0 != to.0
                 || (!any_among(heard, read_by(action)) && !any_among(heard, written))))

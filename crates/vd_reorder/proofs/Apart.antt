@@ -21,7 +21,7 @@ use Rattle.vd_reorder.proofs.Alike.{act_look, heard_look}
 abbrev pub Looks : Type 0
 Looks = ℕ → Look
 
-abbrev looks : Hosts → Looks
+abbrev pub looks : Hosts → Looks
 looks w h = look (w h)
 
 abbrev pub place : Turn → ℕ
@@ -42,7 +42,7 @@ put_look w h x i =
       | inr ne ↦ ap look (put_other w h x i ne) ∙ sym (put_other (looks w) h (look x) i ne)
     ]
 
-gone_looks : (t : Tape) (x : Turn) (w : Hosts) → looks (gone_by t x w) ≡ looked t x (looks w)
+pub gone_looks : (t : Tape) (x : Turn) (w : Hosts) → looks (gone_by t x w) ≡ looked t x (looks w)
 gone_looks t (Does h a) w = fun_ext (put_look w h (acted (t h) a (w h)))
 gone_looks t (Tells a said b heard) w =
     let told : Hosts = put w a (said_to b (words_in (w a).registers said) (w a)) in
@@ -61,7 +61,7 @@ alike_by x y turn t w h =
     (gone_looks t y (gone_by t x w) ∙ ap (looked t y) (gone_looks t x w) ∙ turn t (looks w) ∙ sym (ap (looked t x) (gone_looks t y w)) ∙ sym (gone_looks t x (gone_by t y w)))
 
 -- each at its own host
-far_turn : (x y : Turn) → place x ≢ place y → ((t : Tape) (l : Looks) → new_look t y (looked t x l) ≡ new_look t y l)
+pub far_turn : (x y : Turn) → place x ≢ place y → ((t : Tape) (l : Looks) → new_look t y (looked t x l) ≡ new_look t y l)
     → ((t : Tape) (l : Looks) → new_look t x (looked t y l) ≡ new_look t x l) → LooksTurn x y
 far_turn x y far later earlier t l =
     ap (put (looked t x l) (place y)) (later t l)
@@ -111,7 +111,7 @@ agrees (action.Get r x count i) e f = tt
 agrees (action.Put x count i s) e f = tt
 
 -- words at a host where only some of its registers may have changed
-words_at : (l : Looks) (h : ℕ) (x : Look) (from : ℕ) (said : List Reg) → (h ≡ from → words_in x.0 said ≡ words_in (l h).0 said)
+pub words_at : (l : Looks) (h : ℕ) (x : Look) (from : ℕ) (said : List Reg) → (h ≡ from → words_in x.0 said ≡ words_in (l h).0 said)
     → words_in (put l h x from).0 said ≡ words_in (l from).0 said
 words_at l h x from said stay =
     elim (same_or_not from h) [
@@ -186,7 +186,7 @@ puts_commute f (r ∷ rs) [] vs ys a = refl
 puts_commute f (r ∷ rs) (x ∷ xs) vs ys a = puts_commute (put f r.0 x) rs xs vs ys a.1 ∙ ap (λ g. put_each g rs xs) (put_past f r x vs ys a.0)
 
 -- what a message fills leaves the words that another one sends
-filled_stays : (t : Tape) (l : Looks) (a : ℕ) (said : List Reg) (b : ℕ) (heard : List Reg) (c : ℕ) (says : List Reg) → (b ≡ c → AreApart says heard)
+pub filled_stays : (t : Tape) (l : Looks) (a : ℕ) (said : List Reg) (b : ℕ) (heard : List Reg) (c : ℕ) (says : List Reg) → (b ≡ c → AreApart says heard)
     → words_in (looked t (Tells a said b heard) l c).0 says ≡ words_in (l c).0 says
 filled_stays t l a said b heard c says apart =
     words_at l b (heard_look heard (words_in (l a).0 said) (l b)) c says (λ e. words_stay (l b).0 heard (words_in (l a).0 said) says (apart e))

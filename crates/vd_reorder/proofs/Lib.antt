@@ -33,3 +33,4 @@ mod ChoreographyCommutingTurned
 mod Tidy
 mod Apart
 mod Own
+mod Shown

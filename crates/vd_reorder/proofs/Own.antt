@@ -24,7 +24,7 @@ ones_words items c (Unequal x y) n d = refl
 ones_words items c Ended n d = refl
 
 -- a plain act, as it is seen
-plain_look : (items : Source → ℕ → List ℕ) (a : Action) (n : Need) → IsPlain a n → (f : Registers) (c : Cursors) (p : List ℕ)
+pub plain_look : (items : Source → ℕ → List ℕ) (a : Action) (n : Need) → IsPlain a n → (f : Registers) (c : Cursors) (p : List ℕ)
     → act_look items a (f, (c, p)) ≡ (written f a (supplied items c n), (advanced c n, p))
 plain_look items a n plain f c p =
     ap (λ (m : Need). (written f a (supplied items c m), (advanced c m, with_print p (word_printed f a)))) (plain.needs f)

@@ -92,24 +92,24 @@ results (action.Zero r count) ws xs = replicate count 0
 results (action.Get r x count i) ws xs = (if nat_lt (nth ws 0) count then nth (drop 1 ws) (nth ws 0) else 0) ∷ []
 results (action.Put x count i s) ws xs = if nat_lt (nth ws 0) count then changed (drop 2 ws) (nth ws 0) (nth ws 1) else drop 2 ws
 
-writes_results : (a : Action) → is_simple a ≡ true → (f : Registers) (xs : List ℕ) → written f a xs ≡ put_each f (writes a) (results a (words_in f (reads a)) xs)
-writes_results (action.Const r k) e f xs = refl
-writes_results (action.Copy r x) e f xs = refl
-writes_results (action.Apply o r x y) e f xs = refl
-writes_results (action.Shl r x k) e f xs = refl
-writes_results (action.Shr r x k) e f xs = refl
-writes_results (action.Mux r c x y) e f xs = refl
-writes_results (action.Own r) e f xs = refl
-writes_results (action.Triple p a b c) e f xs = refl
-writes_results (action.Bits p a b c) e f xs = refl
-writes_results (action.Pair p s x) e f xs = refl
-writes_results (action.Input r) e f xs = refl
-writes_results (action.Print r) e f xs = absurd cc
-writes_results (action.Hash d n v) e f xs = hashed f d.0 n.0 v.0
-writes_results (action.Same x y) e f xs = absurd cc
-writes_results (action.Zero r count) e f xs = zeroed_row f r.0 count
-writes_results (action.Get r x count i) e f xs = ap (put f r.0) (got f x.0 count (f i.0) (nat_lt (f i.0) count) refl)
-writes_results (action.Put x count i s) e f xs = changed_row f x.0 count (f i.0) (f s.0) (nat_lt (f i.0) count) refl
+writes_results : (a : Action) (f : Registers) (xs : List ℕ) → written f a xs ≡ put_each f (writes a) (results a (words_in f (reads a)) xs)
+writes_results (action.Const r k) f xs = refl
+writes_results (action.Copy r x) f xs = refl
+writes_results (action.Apply o r x y) f xs = refl
+writes_results (action.Shl r x k) f xs = refl
+writes_results (action.Shr r x k) f xs = refl
+writes_results (action.Mux r c x y) f xs = refl
+writes_results (action.Own r) f xs = refl
+writes_results (action.Triple p a b c) f xs = refl
+writes_results (action.Bits p a b c) f xs = refl
+writes_results (action.Pair p s x) f xs = refl
+writes_results (action.Input r) f xs = refl
+writes_results (action.Print r) f xs = refl
+writes_results (action.Hash d n v) f xs = hashed f d.0 n.0 v.0
+writes_results (action.Same x y) f xs = refl
+writes_results (action.Zero r count) f xs = zeroed_row f r.0 count
+writes_results (action.Get r x count i) f xs = ap (put f r.0) (got f x.0 count (f i.0) (nat_lt (f i.0) count) refl)
+writes_results (action.Put x count i s) f xs = changed_row f x.0 count (f i.0) (f s.0) (nat_lt (f i.0) count) refl
 
 -- ---- registers apart
 
@@ -124,28 +124,28 @@ puts_commute f (r ∷ rs) [] vs ys a = refl
 puts_commute f (r ∷ rs) (x ∷ xs) vs ys a = puts_commute (put f r.0 x) rs xs vs ys a.1 ∙ ap (λ g. put_each g rs xs) (put_past f r x vs ys a.0)
 
 -- an action past registers that it neither reads nor writes
-pub past_registers : (a : Action) (qs : List Reg) → is_simple a ≡ true → AreApart (reads a) qs → AreApart (writes a) qs → (f : Registers) (xs ys : List ℕ)
+pub past_registers : (a : Action) (qs : List Reg) → AreApart (reads a) qs → AreApart (writes a) qs → (f : Registers) (xs ys : List ℕ)
     → written (put_each f qs xs) a ys ≡ put_each (written f a ys) qs xs
-past_registers a qs s r w f xs ys =
-    writes_results a s (put_each f qs xs) ys
+past_registers a qs r w f xs ys =
+    writes_results a (put_each f qs xs) ys
     ∙ ap (λ ws. put_each (put_each f qs xs) (writes a) (results a ws ys)) (words_stay f qs xs (reads a) r)
     ∙ sym (puts_commute f (writes a) (results a (words_in f (reads a)) ys) qs xs w)
-    ∙ ap (λ g. put_each g qs xs) (sym (writes_results a s f ys))
+    ∙ ap (λ g. put_each g qs xs) (sym (writes_results a f ys))
 
-pub kept_words : (b : Action) (rs : List Reg) → is_simple b ≡ true → AreApart rs (writes b) → (f : Registers) (xs : List ℕ) → words_in (written f b xs) rs ≡ words_in f rs
-kept_words b rs s a f xs =
-    ap (λ g. words_in g rs) (writes_results b s f xs) ∙ words_stay f (writes b) (results b (words_in f (reads b)) xs) rs a
+pub kept_words : (b : Action) (rs : List Reg) → AreApart rs (writes b) → (f : Registers) (xs : List ℕ) → words_in (written f b xs) rs ≡ words_in f rs
+kept_words b rs a f xs =
+    ap (λ g. words_in g rs) (writes_results b f xs) ∙ words_stay f (writes b) (results b (words_in f (reads b)) xs) rs a
 
-both_act : (b a : Action) → is_simple b ≡ true → is_simple a ≡ true → AreApart (reads a) (writes b) → AreApart (reads b) (writes a) → AreApart (writes b) (writes a)
+both_act : (b a : Action) → AreApart (reads a) (writes b) → AreApart (reads b) (writes a) → AreApart (writes b) (writes a)
     → (f : Registers) (xs ys : List ℕ) → written (written f b xs) a ys ≡ written (written f a ys) b xs
-both_act b a sb sa ra rb w f xs ys =
-    writes_results a sa (written f b xs) ys
-    ∙ ap (λ ws. put_each (written f b xs) (writes a) (results a ws ys)) (kept_words b (reads a) sb ra f xs)
-    ∙ ap (λ g. put_each g (writes a) (results a (words_in f (reads a)) ys)) (writes_results b sb f xs)
+both_act b a ra rb w f xs ys =
+    writes_results a (written f b xs) ys
+    ∙ ap (λ ws. put_each (written f b xs) (writes a) (results a ws ys)) (kept_words b (reads a) ra f xs)
+    ∙ ap (λ g. put_each g (writes a) (results a (words_in f (reads a)) ys)) (writes_results b f xs)
     ∙ puts_commute f (writes b) (results b (words_in f (reads b)) xs) (writes a) (results a (words_in f (reads a)) ys) w
-    ∙ ap (λ g. put_each g (writes b) (results b (words_in f (reads b)) xs)) (sym (writes_results a sa f ys))
-    ∙ ap (λ ws. put_each (written f a ys) (writes b) (results b ws xs)) (sym (kept_words a (reads b) sa rb f ys))
-    ∙ sym (writes_results b sb (written f a ys) xs)
+    ∙ ap (λ g. put_each g (writes b) (results b (words_in f (reads b)) xs)) (sym (writes_results a f ys))
+    ∙ ap (λ ws. put_each (written f a ys) (writes b) (results b ws xs)) (sym (kept_words a (reads b) rb f ys))
+    ∙ sym (writes_results b (written f a ys) xs)
 
 -- ---- the test
 
@@ -192,7 +192,7 @@ action_past_print (action.Triple p a b c) g z t m = absurd cc
 action_past_print (action.Bits p a b c) g z t m = absurd cc
 action_past_print (action.Pair p s x) g z t m = absurd cc
 action_past_print (action.Input r) g z t m = absurd cc
-action_past_print (action.Print r) g z t m = action_before_print r g (needs g) (plain g z) (λ f ys. ap (λ ws. nth ws 0) (kept_words g (r ∷ []) z m f ys))
+action_past_print (action.Print r) g z t m = action_before_print r g (needs g) (plain g z) (λ f ys. ap (λ ws. nth ws 0) (kept_words g (r ∷ []) m f ys))
 action_past_print (action.Hash d n v) g z t m = absurd cc
 action_past_print (action.Same x y) g z t m = absurd cc
 action_past_print (action.Zero r count) g z t m = absurd cc
@@ -204,16 +204,24 @@ pub record DoNotNeed (b a : Action) : Type 0 where
   pub lists : ListsDiffer (needs b) (needs a)
   pub commute : (f : Registers) (xs ys : List ℕ) → written (written f b xs) a ys ≡ written (written f a ys) b xs
 
-pub do_not_need : (b a : Action) → is_simple b ≡ true → is_simple a ≡ true → both_may b a ≡ true → DoNotNeed b a
-do_not_need b a s z e =
+pub do_not_need : (b a : Action) → both_may b a ≡ true → DoNotNeed b a
+do_not_need b a e =
     let l = no_then (share_list (needs b) (needs a)) _ e in
     let m = no_then (meet (reads a) (writes b)) _ l.1 in
     let k = no_then (meet (reads b) (writes a)) _ m.1 in
     let w = no_then (meet (writes b) (writes a)) true k.1 in
-    record { lists = differ (needs b) (needs a) l.0; commute = both_act b a s z (apart (reads a) (writes b) m.0) (apart (reads b) (writes a) k.0) (apart (writes b) (writes a) w.0) }
+    record { lists = differ (needs b) (needs a) l.0; commute = both_act b a (apart (reads a) (writes b) m.0) (apart (reads b) (writes a) k.0) (apart (writes b) (writes a) w.0) }
+
+-- neither writes what the other reads
+pub reads_apart : (b a : Action) → both_may b a ≡ true → AreApart (reads a) (writes b) × AreApart (reads b) (writes a)
+reads_apart b a e =
+    let l = no_then (share_list (needs b) (needs a)) _ e in
+    let m = no_then (meet (reads a) (writes b)) _ l.1 in
+    let k = no_then (meet (reads b) (writes a)) _ m.1 in
+    (apart (reads a) (writes b) m.0, apart (reads b) (writes a) k.0)
 
 both : (b a : Action) → is_simple b ≡ true → is_simple a ≡ true → both_may b a ≡ true → MayPass (Acts b) (Acts a)
-both b a s z e = let d = do_not_need b a s z e in action_before_action b a (needs b) (needs a) (plain b s) (plain a z) d.lists d.commute
+both b a s z e = let d = do_not_need b a e in action_before_action b a (needs b) (needs a) (plain b s) (plain a z) d.lists d.commute
 
 pub sound : (x y : Piece) → may x y ≡ true → MayPass x y
 sound (Awaits q qs) (Sends p rs) e = send_before_receive q p qs rs (apart rs qs (no_then (meet rs qs) true e).0)
@@ -222,18 +230,18 @@ sound (Acts b) (Sends p rs) e =
     elim (either (is_simple b) (if meet rs (writes b) then false else true) (is_print b) e) [
       | inl s ↦
           let m = no_then (meet rs (writes b)) true s.1 in
-          send_before_action b (needs b) p rs (plain b s.0) (kept_words b rs s.0 (apart rs (writes b) m.0))
+          send_before_action b (needs b) p rs (plain b s.0) (kept_words b rs (apart rs (writes b) m.0))
       | inr s ↦ send_past_print b p rs s
     ]
 sound (Awaits q qs) (Acts a) e =
     let s = yes_then (is_simple a) (if meet (reads a) qs then false else (if meet (writes a) qs then false else true)) e in
     let m = no_then (meet (reads a) qs) (if meet (writes a) qs then false else true) s.1 in
     let k = no_then (meet (writes a) qs) true m.1 in
-    action_before_receive q qs a (needs a) (plain a s.0) (past_registers a qs s.0 (apart (reads a) qs m.0) (apart (writes a) qs k.0))
+    action_before_receive q qs a (needs a) (plain a s.0) (past_registers a qs (apart (reads a) qs m.0) (apart (writes a) qs k.0))
 sound (Sends q qs) (Acts a) e =
     let s = yes_then (is_simple a) (if meet qs (writes a) then false else true) e in
     let m = no_then (meet qs (writes a)) true s.1 in
-    action_before_send q qs a (needs a) (plain a s.0) (kept_words a qs s.0 (apart qs (writes a) m.0))
+    action_before_send q qs a (needs a) (plain a s.0) (kept_words a qs (apart qs (writes a) m.0))
 sound (Acts b) (Acts a) e =
     let z = yes_then (is_simple a) _ e in
     elim (either (is_simple b) (both_may b a) (if is_print b then (if meet (reads b) (writes a) then false else true) else false) z.1) [

@@ -1,11 +1,11 @@
 -- Which neighbours in joint code may be exchanged.
-use Rattle.std.specs.Prelude.{◌≡◌, ◌≢◌, ℕ, true, List}
+use Rattle.std.specs.Prelude.{◌≡◌, ◌≢◌, ℕ, true, false, List}
 use Rattle.vd_execution.specs.declared.instructions.Reg.{Reg}
 use Rattle.vd_execution.specs.declared.instructions.Action.{Action}
 use Rattle.vd_execution.specs.Registers.{Registers, put_each, written}
 use Rattle.vd_execution.specs.Step.{Need, words_in}
 use Rattle.vd_reorder.specs.Neighbours.{AreApart, IsPlain, ListsDiffer}
-use Rattle.vd_reorder.specs.ReorderLawsTesting.{is_simple}
+use Rattle.vd_reorder.specs.ReorderLawsTesting.{is_simple, reads}
 use Rattle.vd_reorder.specs.Turning.{Turn, Does, Tells, MayTurn}
 
 -- Two hosts act by themselves.
@@ -40,3 +40,15 @@ pub record AreBeside (a : ℕ) (said : List Reg) (b : ℕ) (heard : List Reg) (c
 abbrev pub MessagesApart : Type 0
 MessagesApart = (a : ℕ) (said : List Reg) (b : ℕ) (heard : List Reg) (c : ℕ) (says : List Reg) (d : ℕ) (hears : List Reg) → a ≢ b → c ≢ d
     → AreBeside a said b heard c says d hears → MayTurn (Tells a said b heard) (Tells c says d hears)
+
+-- ---- what is printed or compared
+
+-- A host prints or compares, and does another act: where that leaves the words that are printed or compared, either may stand first.
+abbrev pub ShownBesideAct : Type 0
+ShownBesideAct = (h : ℕ) (a b : Action) (n : Need) → is_simple a ≡ false → is_simple b ≡ true → IsPlain b n
+    → ((f : Registers) (xs : List ℕ) → words_in (written f b xs) (reads a) ≡ words_in f (reads a)) → MayTurn (Does h a) (Does h b) × MayTurn (Does h b) (Does h a)
+
+-- A host prints or compares, and a message is told: where the host receives it, it fills other registers.
+abbrev pub ShownBesideMessage : Type 0
+ShownBesideMessage = (h : ℕ) (a : Action) (from : ℕ) (said : List Reg) (to : ℕ) (heard : List Reg) → is_simple a ≡ false → from ≢ to
+    → (h ≡ to → AreApart (reads a) heard) → MayTurn (Does h a) (Tells from said to heard) × MayTurn (Tells from said to heard) (Does h a)

@@ -1,5 +1,6 @@
 use Rattle.vd_reorder.proofs.Apart.{act_beside_message, acts_apart, message_beside_act, messages_apart}
 use Rattle.vd_reorder.proofs.Own.{acts_at_one}
+use Rattle.vd_reorder.proofs.Shown.{shown_beside_act, shown_beside_message}
 use Rattle.vd_reorder.proofs.choreography_commuting.neighbours_may_turn.Goals as goal
 
 pub returns-clause-acts : goal.returns-clause-acts
@@ -16,3 +17,9 @@ returns-clause-message_act c = message_beside_act
 
 pub returns-clause-messages : goal.returns-clause-messages
 returns-clause-messages c = messages_apart
+
+pub returns-clause-shown : goal.returns-clause-shown
+returns-clause-shown c = shown_beside_act
+
+pub returns-clause-shown_message : goal.returns-clause-shown_message
+returns-clause-shown_message c = shown_beside_message
