@@ -1,5 +1,5 @@
 -- What one host takes, whatever words it is given.
-use Rattle.std.proofs.Common.{◌≡◌, ℕ, suc, ◌+◌, ◌-◌, ◌*◌, ◌<◌, ◌≤◌, nat_eq, Bool, true, false, cond, List, [], ◌∷◌, Some, refl, sym, ap, subst, arith}
+use Rattle.std.proofs.Common.{◌≡◌, inl, inr, ℕ, suc, ◌+◌, ◌-◌, ◌*◌, ◌<◌, ◌≤◌, nat_eq, Bool, true, false, cond, List, [], ◌∷◌, Some, refl, sym, ap, subst, arith}
 use Rattle.std.specs.Prelude.{nat_lt}
 use Rattle.std.proofs.lemmas.Bool.Decides.{eqb_tells}
 use borrow.Author.Tests.{ltb-true}
@@ -7,7 +7,7 @@ use Rattle.vd_execution.specs.declared.instructions.Action.{Action}
 use Rattle.vd_execution.specs.declared.instructions.Action.TheVariants as action
 use Rattle.vd_execution.specs.Registers.{Registers}
 use Rattle.vd_execution.specs.Code.{Code, Finished, Then, Send, Recv, Choose, Repeat, followed_by}
-use Rattle.vd_execution.specs.Step.{Source, Inputs, OwnWords, Triples, BitTriples, Pairs, Cursors, State, Need, Nothing, Item, Packet, Unequal, Ended, same_source, advanced, need_of_action, need_of, pending_after, next}
+use Rattle.vd_execution.specs.Step.{Source, Inputs, OwnWords, Triples, BitTriples, Pairs, Cursors, State, Nothing, Item, Packet, Unequal, Ended, same_source, advanced, need_of_action, need_of, pending_after, next}
 use Rattle.vd_deal_needs.specs.DealNeedsLawsNeeds.{source_of, one_of, greater, counts, at_start, stepped, NeedsAreEnoughAlone}
 use Rattle.vd_deal_needs.proofs.DealNeedsLawsTaken.{action_takes}
 
@@ -73,7 +73,7 @@ way_most m (xs ∷ words) r =
 
 -- ---- an item that is taken next
 
-as_number : Bool → ℕ
+abbrev as_number : Bool → ℕ
 as_number b = cond b 1 0
 
 number_itself : (n : ℕ) → nat_eq n n ≡ true
