@@ -1,5 +1,5 @@
 -- The last byte of a printed choice is behind a digit, and that of the word for the other order is not.
-use Rattle.std.proofs.Common.{◌≡◌, ℕ, ◌+◌, ◌-◌, ◌*◌, ◌<◌, ◌≤◌, ◌^◌, true, nat_le, List, [], ◌∷◌, ◌++◌, length, refl, sym, ap, ◌∙◌, append_assoc, arith}
+use Rattle.std.proofs.Common.{◌≡◌, ℕ, ◌+◌, ◌-◌, ◌*◌, ◌<◌, ◌≤◌, ◌^◌, true, nat_le, List, [], ◌∷◌, ◌++◌, length, refl, sym, ap, ap₂, ◌∙◌, append_assoc, arith, ◌⊎◌, inl, inr, ⊎_elim}
 use Rattle.std.specs.Prelude.{codes}
 use Rattle.std.specs.Fmt.{decimal}
 use Rattle.std.specs.List.{fold, list_all}
@@ -12,7 +12,7 @@ use Rattle.vd_core.specs.declared.normal.NormalForm.{NormalForm}
 use Rattle.vd_report.specs.ChoiceLines.{slot_lines}
 use Rattle.vd_search_stages.specs.declared.optimum.Assignment.{Assignment}
 use Rattle.vd_cmd_choice.specs.Choice.{printed_at}
-use Rattle.vd_cmd_compile_early.specs.Plans.{PlansTell}
+use Rattle.vd_cmd_compile_early.specs.Plans.{PlansTell, RunsOn}
 
 -- ---- digits
 
@@ -65,6 +65,34 @@ not_early before other (x ∷ xs) some are e =
     let high = digit_high (last_of x xs) (last_digit x xs are) in
     omega (arith, last, high)
 
+-- ---- two lists that begin one list
+
+-- both lists, where the two parts before are equally long
+both_same : (a b x y : List ℕ) → length a ≡ length b → a ++ x ≡ b ++ y → (a ≡ b) × (x ≡ y)
+both_same [] [] x y same e = (refl, e)
+both_same [] (q ∷ b) x y same e = absurd (omega (arith, same))
+both_same (p ∷ a) [] x y same e = absurd (omega (arith, same))
+both_same (p ∷ a) (q ∷ b) x y same e =
+    let heads : p ≡ q = cc in
+    let tails : a ++ x ≡ b ++ y = cc in
+    let rest = both_same a b x y (omega (arith, same)) tails in
+    (ap₂ (λ (h : ℕ) (t : List ℕ). h ∷ t) heads rest.0, rest.1)
+
+runs_on : (a x b y : List ℕ) → a ++ x ≡ b ++ y → RunsOn a x b y ⊎ RunsOn b y a x
+runs_on [] x b y e = inl (b, refl, e)
+runs_on (p ∷ a) x [] y e = inr (p ∷ a, refl, sym e)
+runs_on (p ∷ a) x (q ∷ b) y e =
+    let heads : p ≡ q = cc in
+    let tails : a ++ x ≡ b ++ y = cc in
+    ⊎_elim
+    (λ (h : RunsOn a x b y). inl (h.0, ap₂ (λ (z : ℕ) (t : List ℕ). z ∷ t) (sym heads) h.1, h.2))
+    (λ (h : RunsOn b y a x). inr (h.0, ap₂ (λ (z : ℕ) (t : List ℕ). z ∷ t) heads h.1, h.2))
+    (runs_on a x b y tails)
+
+-- what is hashed for an early plan, with its last line behind all else
+line_last : (a x b y line : List ℕ) → a ++ (x ++ line) ≡ b ++ (y ++ line) → a ++ x ≡ b ++ y
+line_last a x b y line e = append_cancel_right (a ++ x) (b ++ y) line (append_assoc a x line ∙ e ∙ sym (append_assoc b y line))
+
 -- ---- plans
 
 other_order : (program : NormalForm) (a : Assignment) (text other printed : List ℕ) → a.cost < 2 ^ 64 → text ++ printed_at program a ≡ other ++ (printed ++ codes "early\n") → ⊥
@@ -93,5 +121,11 @@ plans_tell =
       early_choice = λ text printed other e. append_cancel_right printed other (codes "early\n") (append_cancel_left text (printed ++ codes "early\n") (other ++ codes "early\n") e);
       source = λ text other printed e. append_cancel_right text other printed e;
       early_source = λ text other printed e. append_cancel_right text other (printed ++ codes "early\n") e;
+      both = λ text printed other others same e. both_same text other printed others same e;
+      early_both = λ text printed other others same e.
+          both_same text other printed others same (line_last text printed other others (codes "early\n") e);
+      else_runs_on = λ text printed other others e. runs_on text printed other others e;
+      early_else_runs_on = λ text printed other others e.
+          runs_on text printed other others (line_last text printed other others (codes "early\n") e);
       order = λ program a text other printed small e. other_order program a text other printed small e;
     }
