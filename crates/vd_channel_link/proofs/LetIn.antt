@@ -10,7 +10,7 @@ use Rattle.vd_channel_crypto.specs.declared.hellos.Hello.{Hello}
 use Rattle.vd_channel_crypto.specs.declared.records.Keys.{Keys}
 use Rattle.vd_channel_crypto.proofs.Front.{both_ends}
 use Rattle.vd_channel_link.specs.Ends.{said_by}
-use Rattle.vd_channel_link.specs.Letting.{HonestHostsAreLetIn, HostsOfADealingMeet}
+use Rattle.vd_channel_link.specs.Letting.{HonestHostsAreLetIn, HonestHostsAreReached, HostsOfADealingMeet}
 use Rattle.vd_channel_link.specs.Meeting.{HaveMet, IsMeetFault, IsStranger, OfHello, OfProof, ProvedNothing, SaidNoHello}
 use Rattle.vd_channel_link.specs.declared.channel_net.seal.Seal.{Seal}
 use Rattle.vd_channel_link.specs.declared.fault.SealFault.{SealFault}
@@ -30,6 +30,13 @@ let_in seal peer came left why away theirs pieces rest told ends said =
     subst (λ (l : List ℕ). IsMeetFault away.mine away.key l why) said (strange away.mine away.key came left why (away.stranger told)) in
     let failed : why ≡ fault.Peer = ends_meet.none_refused away.key away.mine theirs pieces rest why ends fails in
     (failed, away.counted failed)
+
+pub reached : HonestHostsAreReached
+reached seal peer came left why leaves theirs pieces rest told ends said =
+    let fails : IsMeetFault leaves.mine leaves.key (said_by leaves.key theirs leaves.mine pieces ++ rest) why =
+    subst (λ (l : List ℕ). IsMeetFault leaves.mine leaves.key l why) said (leaves.refused told) in
+    let failed : why ≡ fault.Peer = ends_meet.none_refused leaves.key leaves.mine theirs pieces rest why ends fails in
+    (failed, leaves.counted failed)
 
 -- ---- two hosts of one dealing meet
 

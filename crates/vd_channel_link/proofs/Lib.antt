@@ -21,3 +21,4 @@ mod Waiting
 mod Turns
 mod Answering
 mod LetIn
+mod Reached

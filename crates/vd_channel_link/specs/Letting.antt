@@ -1,10 +1,10 @@
 -- That hosts of one dealing are let in, and meet.
-use Rattle.std.specs.Prelude.{◌≡◌, ◌≢◌, ◌<◌, ◌+◌, ℕ, IsTrue, List, [], ◌++◌}
+use Rattle.std.specs.Prelude.{◌≡◌, ◌≢◌, ◌<◌, ◌+◌, ℕ, IsTrue, List, ◌++◌}
 use Rattle.vd_outside.specs.Link.{LinkView}
 use Rattle.vd_channel_crypto.specs.declared.hellos.Hello.{Hello}
 use Rattle.vd_channel_crypto.specs.declared.records.Keys.{Keys}
 use Rattle.vd_channel_link.specs.Ends.{AreOfEnds, said_by}
-use Rattle.vd_channel_link.specs.Seals.{IsKeyFor, IsMet, IsTurnedAway}
+use Rattle.vd_channel_link.specs.Seals.{IsKeyFor, IsLeft, IsMet, IsTurnedAway}
 use Rattle.vd_channel_link.specs.Session.{IsFresh}
 use Rattle.vd_channel_link.specs.declared.channel_net.seal.Seal.{Seal}
 use Rattle.vd_channel_link.specs.declared.fault.SealFault.{SealFault}
@@ -16,6 +16,12 @@ abbrev pub HonestHostsAreLetIn : Type 0
 HonestHostsAreLetIn = (seal : Seal) (peer : ℕ) (came left : LinkView) (why : SealFault) (away : IsTurnedAway seal peer came left why)
     (theirs : Hello) (pieces : List (List ℕ)) (rest : List ℕ) → IsTrue left.told → AreOfEnds away.mine theirs
     → came.coming ≡ said_by away.key theirs away.mine pieces ++ rest → (why ≡ fault.Peer) × (0 < left.faults)
+
+-- So it is with an earlier host that was asked for and is left.
+abbrev pub HonestHostsAreReached : Type 0
+HonestHostsAreReached = (seal : Seal) (peer : ℕ) (came left : LinkView) (why : SealFault) (leaves : IsLeft seal peer came left why)
+    (theirs : Hello) (pieces : List (List ℕ)) (rest : List ℕ) → IsTrue left.told → AreOfEnds leaves.mine theirs
+    → came.coming ≡ said_by leaves.key theirs leaves.mine pieces ++ rest → (why ≡ fault.Peer) × (0 < left.faults)
 
 -- two hosts of one dealing, which have one key of their link
 pub record AreOfDealing (seal other : Seal) (key : List ℕ) : Type 0 where

@@ -10,7 +10,7 @@ use Rattle.vd_channel_link.specs.declared.session.Session.{Session}
 use Rattle.vd_channel_crypto.specs.declared.deal_keys.secrets.LinkKey.{LinkKey}
 use Rattle.vd_channel_crypto.specs.declared.deal_keys.secrets.Secrets.{Secrets}
 use Rattle.vd_channel_crypto.specs.declared.records.Keys.{Keys}
-use Rattle.vd_channel_link.specs.Meeting.{HasAnswered, HaveMet, IsCounted, IsStranger}
+use Rattle.vd_channel_link.specs.Meeting.{HasAnswered, HaveMet, IsCounted, IsMeetFault, IsStranger}
 use Rattle.vd_channel_link.specs.declared.fault.SealFault.{SealFault}
 use Rattle.vd_channel_link.specs.declared.channel_net.seal.Seal.{Seal}
 
@@ -98,6 +98,19 @@ pub record IsTurnedAway (seal : Seal) (peer : ℕ) (came left : LinkView) (why :
   pub is_key : IsKeyFor seal.me.0 seal.secrets peer key
   pub counted : IsCounted why left
   pub stranger : IsTrue left.told → IsStranger mine key came left why
+
+-- An earlier host that is left for this reason. Where its link tells its bytes, what came over it was not the greeting of that host, by the
+-- key of the link to it, to the next hello; and where the link failed, that was counted.
+pub record IsLeft (seal : Seal) (peer : ℕ) (came left : LinkView) (why : SealFault) : Type 0 where
+  pub mine : Hello
+  pub id : mine.id ≡ seal.secrets.id
+  pub from : mine.from ≡ seal.me
+  pub to : mine.to.0 ≡ peer
+  pub nonce : mine.nonce ≡ nonce_of seal.seed peer seal.tried
+  pub key : List ℕ
+  pub is_key : IsKeyFor seal.me.0 seal.secrets peer key
+  pub counted : IsCounted why left
+  pub refused : IsTrue left.told → IsMeetFault mine key came.coming why
 
 -- a net that sealed by one seal met a peer, and seals by the other now
 abbrev pub IsMetBy : (peer : Seal → ℕ) → (before now : Option Seal) → Session → (given : LinkView) → Type 0

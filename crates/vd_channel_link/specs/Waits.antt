@@ -1,10 +1,10 @@
--- How a net whose links are sealed waits for a peer.
+-- How a net whose links are sealed waits for a peer, and why it does not reach one.
 use Rattle.std.specs.Prelude.{◌≡◌, ◌≤◌, ℕ, ◌+◌, ◌-◌, ◌^◌, false, List, [], ◌∷◌, ◌++◌, length, Ok, Err}
 use Rattle.vd_base.specs.declared.faults.CallFault.{CallFault}
 use Rattle.vd_base.specs.declared.faults.CallFault.TheVariants as call_fault
 use Rattle.vd_outside.specs.Link.{LinkView}
-use Rattle.vd_outside.specs.Net.{Accepts, HangsUp, NetView}
-use Rattle.vd_channel_link.specs.Seals.{IsTurnedAway, awaited_at}
+use Rattle.vd_outside.specs.Net.{Accepts, Connects, HangsUp, NetView}
+use Rattle.vd_channel_link.specs.Seals.{IsKeyless, IsLeft, IsTurnedAway, awaited_at}
 use Rattle.vd_channel_link.specs.declared.channel_net.seal.Seal.{Seal}
 use Rattle.vd_channel_link.specs.declared.fault.SealFault.{SealFault}
 
@@ -75,3 +75,13 @@ pub data GivesUp (post : Post) (HasNoKey : Type 0) (tried : ℕ) (start now : Ne
   NoKey : HasNoKey → now ≡ start → GivesUp post HasNoKey tried start now call_fault.Failed
   NotMet : (waiting : List Waiter) (net : NetView) (fault : CallFault) → Fails post tried start waiting net fault
       → HangsUpAll waiting net now → GivesUp post HasNoKey tried start now fault
+
+-- Why no link to an earlier host is given: it has no key, or all numbers of connections are used, or there is no memory; or the net below
+-- gives none; or what came over the one that it gave was not the greeting of that host, and it is hung up.
+pub data IsNotReached (seal : Seal) (address : List ℕ) (start now : NetView) : CallFault → Type 0 where
+  NoKeyForIt : IsKeyless seal seal.connected → now ≡ start → IsNotReached seal address start now call_fault.Failed
+  NoNumberLeft : seal.tried ≡ 2 ^ 32 - 1 → now ≡ start → IsNotReached seal address start now call_fault.Failed
+  NoMemory : now ≡ start → IsNotReached seal address start now call_fault.Memory
+  NotConnected : (fault : CallFault) → Connects address start now (Err fault) → IsNotReached seal address start now fault
+  NotGreeted : (net : NetView) (came left : LinkView) (why : SealFault) → Connects address start net (Ok came)
+      → IsLeft seal seal.connected came left why → HangsUp left net now → IsNotReached seal address start now call_fault.Failed

@@ -10,7 +10,10 @@ mod run_net;
 mod seal;
 mod sealed_net;
 
-pub use laws::{honest_hosts_are_let_in, hosts_of_a_dealing_meet, unsent_links_greet_alone};
+pub use laws::{
+    honest_hosts_are_let_in, honest_hosts_are_reached, hosts_of_a_dealing_meet,
+    unsent_links_greet_alone,
+};
 pub use ledger::Ledger;
 pub use run_link::{RunLink, SealedRun};
 pub use run_net::RunNet;

@@ -15,7 +15,7 @@ mod taking;
 pub use channel_handshake::{ends_have_the_same_keys, hello_faults_tell, honest_ends_meet};
 pub use channel_net::{
     Ledger, RunLink, RunNet, Seal, SealedNet, SealedRun, honest_hosts_are_let_in,
-    hosts_of_a_dealing_meet, unsent_links_greet_alone,
+    honest_hosts_are_reached, hosts_of_a_dealing_meet, unsent_links_greet_alone,
 };
 pub use fault::SealFault;
 pub use filling::fill;

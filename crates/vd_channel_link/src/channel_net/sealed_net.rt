@@ -10,10 +10,10 @@ ghost use Rattle.vd_outside.specs.Link.{LinkView};
 ghost use Rattle.vd_outside.specs.Net.{Accepts, Connects, HangsUp, Listens, Looks};
 ghost use Rattle.vd_channel_link.specs.Outgoing.{SealsLinks, SealsSession, sealer_of};
 ghost use Rattle.vd_channel_link.specs.Ledgers.{has_begun, has_sent, nothing_given, with_given, with_returned};
-ghost use Rattle.vd_channel_link.specs.Seals.{IsKeyFor, IsKeyless, IsMet, IsMetBy, StillSeals, Tries};
+ghost use Rattle.vd_channel_link.specs.Seals.{IsKeyFor, IsKeyless, IsLeft, IsMet, IsMetBy, StillSeals, Tries};
 ghost use Rattle.vd_channel_link.specs.Seals.{awaited_at, listening, next_asked, sealed_by};
 ghost use Rattle.vd_channel_link.specs.Views.{sealing};
-ghost use Rattle.vd_channel_link.specs.Waits.{ComesAfter, GivesUp, post_of};
+ghost use Rattle.vd_channel_link.specs.Waits.{ComesAfter, GivesUp, IsNotReached, post_of};
 
 use crate::channel_handshake::ask;
 use crate::channel_net::accepting::accept_sealed;
@@ -123,7 +123,8 @@ fn meet_over<N: Net>(
         (λ given. IsMet seal.old seal.new.tried peer.0 given.session (N.Link.view link) (N.Link.view given.link)) }
     ensures over { (N.Link.view link).sent ≡ [] → SealsLinks (sealer_of seal.old) (N.view net.old) (N.view net.new) }
     ensures same { IfOk result (λ link. N.view net.new ≡ N.view net.old) }
-    ensures hung_up { IfErr result (λ fault. (left : LinkView) × HangsUp left (N.view net.old) (N.view net.new)) }
+    ensures left { IfErr result (λ fault. (left : LinkView) × IsLeft seal.old peer.0 (N.Link.view link) left fault
+        × HangsUp left (N.view net.old) (N.view net.new)) }
 {
     let mut link = link;
     let mut frame = frame;
@@ -153,6 +154,7 @@ fn connect_sealed<N: Net>(
         IsMet seal.old seal.new.tried seal.old.connected link.session came (N.Link.view link.link)) }
     ensures over { SealsLinks (sealer_of seal.old) (N.view net.old) (N.view net.new) }
     ensures sealed { IfOk result (λ link. SealsSession (sealer_of seal.old) (N.view net.old) link.session (N.Link.view link.link)) }
+    ensures gives_up { IfErr result (IsNotReached seal.old address.now (N.view net.old) (N.view net.new)) }
 {
     let peer = seal.next_earlier();
     let Some(key) = seal.key_of(peer) else {
@@ -295,6 +297,8 @@ impl<N: Net + Drop> Net for SealedNet<N> {
         ensures sealed { IfSome self.old.seal (λ seal. IfOk result
             (λ link. SealsSession (sealer_of seal) (N.view self.old.net) link.session (N.Link.view link.link))) }
         ensures kept { StillSeals (option_map next_asked self.old.seal) self.new.seal }
+        ensures gives_up { MatchOption self.old.seal ⊤ (λ seal. IfErr result
+            (IsNotReached seal address.now (N.view self.old.net) (N.view self.new.net))) }
         ensures ledger { OnOk result (self.new.ledger ≡ with_given self.old.ledger) }
         ensures none { OnErr result (self.new.ledger ≡ self.old.ledger) }
     {
