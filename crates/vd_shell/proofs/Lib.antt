@@ -1,3 +1,4 @@
 mod Speakers
 mod InTurn
 mod PacketsRead
+mod AheadNamed

@@ -2,3 +2,4 @@ pub mod Ahead
 pub mod Reasons
 pub mod Telling
 pub mod PacketsRead
+pub mod NamedAhead

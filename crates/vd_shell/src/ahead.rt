@@ -4,6 +4,7 @@ ghost use Rattle.std.specs.Prelude.{◌≡◌, ◌∷◌, ◌++◌, [], IfOk, If
 ghost use Rattle.vd_cmd.specs.Commands.{form_of};
 ghost use Rattle.vd_edge.specs.KeptFiles.{IsReadAhead};
 ghost use Rattle.vd_shell.specs.Ahead.{deals_of, key_files, wanted_by, wanted_of};
+ghost use Rattle.vd_shell.specs.NamedAhead.{NamedFilesAreAhead};
 
 use std::alloc::{AllocError, Global};
 use vd_base::limits::{
@@ -170,3 +171,8 @@ pub fn read_ahead<D: Directory + Drop>(
         Err(_) => Err(FetchFault::Memory),
     }
 }
+
+/// Of each command the files are read ahead that its words name and that it reads, and the deals of its hosts.
+pub fn named_files_are_ahead()
+    ensures { NamedFilesAreAhead }
+{}

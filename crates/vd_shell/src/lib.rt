@@ -7,7 +7,7 @@ mod reasons;
 mod speaker;
 mod telling;
 
-pub use ahead::read_ahead;
+pub use ahead::{named_files_are_ahead, read_ahead};
 pub use reasons::packets_are_read;
 pub use speaker::speaker_of;
 pub use telling::{Reasons, copy_reason, copy_text, tell_fault, tell_no_text, tell_success};
