@@ -12,7 +12,7 @@ use vd_outside::Stored;
 use vd_tape::{Counts, Deal, make, write_deal};
 
 /// The files of deals: `PREFIX.i.deal` for each host i.
-pub fn files_of(alloc: Global, prefix: &str, deals: &[Deal]) -> Result<Items<Stored>, AllocError>
+fn files_of(alloc: Global, prefix: &str, deals: &[Deal]) -> Result<Items<Stored>, AllocError>
     ensures { IfOk result (λ files. files ≡ deal_files prefix.now deals.now) }
 {
     let mut files = Items::new(alloc);

@@ -7,4 +7,4 @@ mod deal_command;
 pub use cmd_deal_keyed::{
     deal_by_source, drawn_deals_are_of_the_draw, key_deals_are_read, keys_are_whole,
 };
-pub use deal_command::{deal, files_of};
+pub use deal_command::deal;

@@ -51,21 +51,21 @@ module _ (p : NormalForm) (h : HostId) (runs : Runs) (out : List ℕ) (l : Label
   pub not_free : (status : Status) → Checks {T = Unit {0}} (as_free (commitment_in a.protocols)) (Err status) → ExecutesAt p l h runs out a (Err status)
   not_free status checks outcomes files =
       check_step (as_free (commitment_in a.protocols)) files (Err status) checks
-      (λ free. check_then (as_consistent (outcomes.judge runs.deals)) (λ consistent. excused_plan p l h runs out a.protocols))
+      (λ free. check_then (as_consistent (outcomes.judge runs.dealing.deals)) (λ consistent. excused_plan p l h runs out a.protocols))
 
   module _ (checks : Checks (as_free (commitment_in a.protocols)) (Ok tt)) where
-    pub not_consistent : (status : Status) → ((outcomes : ReplayOutcomes) → Checks {T = Unit {0}} (as_consistent (outcomes.judge runs.deals)) (Err status)) → ExecutesAt p l h runs out a (Err status)
+    pub not_consistent : (status : Status) → ((outcomes : ReplayOutcomes) → Checks {T = Unit {0}} (as_consistent (outcomes.judge runs.dealing.deals)) (Err status)) → ExecutesAt p l h runs out a (Err status)
     not_consistent status judged outcomes files =
         check_step (as_free (commitment_in a.protocols)) files (Ok tt) checks
-        (λ free. check_then (as_consistent (outcomes.judge runs.deals)) (λ consistent. excused_plan p l h runs out a.protocols)) files (Err status)
-        (check_step (as_consistent (outcomes.judge runs.deals)) files (Err status) (judged outcomes) (λ consistent. excused_plan p l h runs out a.protocols))
+        (λ free. check_then (as_consistent (outcomes.judge runs.dealing.deals)) (λ consistent. excused_plan p l h runs out a.protocols)) files (Err status)
+        (check_step (as_consistent (outcomes.judge runs.dealing.deals)) files (Err status) (judged outcomes) (λ consistent. excused_plan p l h runs out a.protocols))
 
-    module _ (judged : (outcomes : ReplayOutcomes) → Checks (as_consistent (outcomes.judge runs.deals)) (Ok tt)) where
+    module _ (judged : (outcomes : ReplayOutcomes) → Checks (as_consistent (outcomes.judge runs.dealing.deals)) (Ok tt)) where
       looked_at : (result : Result Answer Status) → ((files : FilesView) → Executes true (excused_plan p l h runs out a.protocols) files files result) → ExecutesAt p l h runs out a result
       looked_at result then outcomes files =
           check_step (as_free (commitment_in a.protocols)) files (Ok tt) checks
-          (λ free. check_then (as_consistent (outcomes.judge runs.deals)) (λ consistent. excused_plan p l h runs out a.protocols)) files result
-          (check_step (as_consistent (outcomes.judge runs.deals)) files (Ok tt) (judged outcomes) (λ consistent. excused_plan p l h runs out a.protocols) files result (then files))
+          (λ free. check_then (as_consistent (outcomes.judge runs.dealing.deals)) (λ consistent. excused_plan p l h runs out a.protocols)) files result
+          (check_step (as_consistent (outcomes.judge runs.dealing.deals)) files (Ok tt) (judged outcomes) (λ consistent. excused_plan p l h runs out a.protocols) files result (then files))
 
       pub not_excused : (status : Status) → Checks {T = List Deal} (excused_for p l a.protocols h runs) (Err status) → ExecutesAt p l h runs out a (Err status)
       not_excused status excused =
@@ -125,7 +125,7 @@ module _ (words : ExcuseWords) (before now : FilesView) where
       GaveUp,
       λ certificates choices texts outcomes least.
           loads texts least (program_plan texts outcomes least choices (searched_by certificates choices GaveUp) words) now (Err status)
-          (reads texts outcomes (runs_plan outcomes least choices (searched_by certificates choices GaveUp) words program)),
+          (reads texts (runs_plan outcomes least choices (searched_by certificates choices GaveUp) words program)),
     )
 
     pub with_runs : (runs : Runs) (result : Result Answer Status) → LoadsRuns words program.hosts mid now (Ok runs) → ExecutesRuns words program runs result → ExecutesExcuse words before now result
@@ -133,7 +133,7 @@ module _ (words : ExcuseWords) (before now : FilesView) where
       executes.0,
       λ certificates choices texts outcomes least.
           loads texts least (program_plan texts outcomes least choices (searched_by certificates choices executes.0) words) now result
-          (reads texts outcomes (runs_plan outcomes least choices (searched_by certificates choices executes.0) words program) now result (executes.1 certificates choices outcomes least now)),
+          (reads texts (runs_plan outcomes least choices (searched_by certificates choices executes.0) words program) now result (executes.1 certificates choices outcomes least now)),
     )
 
 -- where no assignment is valid, nothing is told

@@ -57,7 +57,7 @@ is_there inputs g (Some d) (Triples p) i not low = any_there triple_item (list_o
 is_there inputs g (Some d) (BitTriples p) i not low = any_there triple_item (list_of d.bits d.me.0 p) i low
 is_there inputs g (Some d) (Pairs p) i not low = any_there pair_item (list_of d.pairs d.me.0 p) i low
 
-pub are_asked : (runs : Runs) → AreRead 2 runs → IsConsistent runs.deals → AreAsked runs.first runs.second runs.deals
+pub are_asked : (runs : Runs) → AreRead 2 runs → IsConsistent runs.dealing.deals → AreAsked runs.first runs.second runs.dealing.deals
 are_asked runs read consistent = record {
   all_first = read.first;
   all_second = read.second;
@@ -84,37 +84,37 @@ module _ (program : NormalForm) (a : Assignment) (made : IsWellMade program) (nu
   ends_are : (inputs : List (List ℕ)) (deals : List Deal) → joint (tape_of inputs deals) (joint_of program a.protocols) fresh ≡ end_of (plan_of program a.protocols) inputs deals
   ends_are inputs deals = refl
 
-  module _ (h : HostId) (runs : Runs) (read : AreRead 2 runs) (consistent : IsConsistent runs.deals) (stored : List Deal)
-      (x : IsExcused program selected.labels a.protocols h runs.first runs.second runs.deals stored) where
-    takes : TakesNoMore (plan_of program a.protocols) runs.first runs.deals
+  module _ (h : HostId) (runs : Runs) (read : AreRead 2 runs) (consistent : IsConsistent runs.dealing.deals) (stored : List Deal)
+      (x : IsExcused program selected.labels a.protocols h runs.first runs.second runs.dealing.deals stored) where
+    takes : TakesNoMore (plan_of program a.protocols) runs.first runs.dealing.deals
     takes =
-        (short_kinds_are_exact program selected.labels a.protocols chosen_two runs.first runs.deals).0
-        (none_of (short_kind (plan_of program a.protocols) runs.first runs.deals) (view_difference program selected.labels a.protocols h runs.first runs.second) x.no_fault)
+        (short_kinds_are_exact program selected.labels a.protocols chosen_two runs.first runs.dealing.deals).0
+        (none_of (short_kind (plan_of program a.protocols) runs.first runs.dealing.deals) (view_difference program selected.labels a.protocols h runs.first runs.second) x.no_fault)
 
-    pub playable : IsPlayable program a.protocols runs.first runs.deals
+    pub playable : IsPlayable program a.protocols runs.first runs.dealing.deals
     playable = record {
       files = record {
         words = read.first_words;
         few = let one = read.first in let two = read.all in omega (arith, one, two);
-        dealt = subst (λ (n : ℕ). AreDealsOf n runs.deals) (sym read.all) read.deals;
+        dealt = subst (λ (n : ℕ). AreDealsOf n runs.dealing.deals) (sym read.all) read.deals;
         consistent = consistent;
       };
       all_inputs = read.first ∙ sym hosts;
       all_deals = read.all ∙ sym hosts;
       reaches = λ g s i not low.
-          let there : i < (end_of (plan_of program a.protocols) runs.first runs.deals g).cursors s = subst (λ (last : Hosts). i < (last g).cursors s) (ends_are runs.first runs.deals) low in
-          let most : (end_of (plan_of program a.protocols) runs.first runs.deals g).cursors s ≤ counts_of runs.deals g s = takes g s not in
-          is_there runs.first g (slice_get runs.deals g) s i not (omega (arith, there, most));
+          let there : i < (end_of (plan_of program a.protocols) runs.first runs.dealing.deals g).cursors s = subst (λ (last : Hosts). i < (last g).cursors s) (ends_are runs.first runs.dealing.deals) low in
+          let most : (end_of (plan_of program a.protocols) runs.first runs.dealing.deals g).cursors s ≤ counts_of runs.dealing.deals g s = takes g s not in
+          is_there runs.first g (slice_get runs.dealing.deals g) s i not (omega (arith, there, most));
     }
 
     -- the other host sends the same in both runs
-    same_talk : talk program a.protocols runs.first runs.deals (1 - h.0) h.0 ≡ talk program a.protocols runs.second stored (1 - h.0) h.0
+    same_talk : talk program a.protocols runs.first runs.dealing.deals (1 - h.0) h.0 ≡ talk program a.protocols runs.second stored (1 - h.0) h.0
     same_talk =
-        ap (λ (last : Hosts). words_of ((last (1 - h.0)).sent h.0)) (ends_are runs.first runs.deals)
+        ap (λ (last : Hosts). words_of ((last (1 - h.0)).sent h.0)) (ends_are runs.first runs.dealing.deals)
         ∙ ap (λ (packets : List (List ℕ)). words_of packets) ((x.excuse.explains.view h.0 (is_alone h.0)).told (1 - h.0))
         ∙ sym (ap (λ (last : Hosts). words_of ((last (1 - h.0)).sent h.0)) (ends_are runs.second stored))
 
-  pub told : (h : HostId) → h.0 < 2 → (runs : Runs) → AreRead 2 runs → IsConsistent runs.deals → (stored : List Deal) → IsExcused program selected.labels a.protocols h runs.first runs.second runs.deals stored
+  pub told : (h : HostId) → h.0 < 2 → (runs : Runs) → AreRead 2 runs → IsConsistent runs.dealing.deals → (stored : List Deal) → IsExcused program selected.labels a.protocols h runs.first runs.second runs.dealing.deals stored
       → (out name : List ℕ) → host_of program.hosts name ≡ Some h.0 → (answer : Answer) → answer ≡ excuse_answer program a.protocols h runs out stored → IsExcuseOf name program runs out answer.stores answer.printed
   told h low runs read consistent stored x out name named answer e =
       let line = ap (λ (a : Answer). a.printed) e in
@@ -134,7 +134,7 @@ module _ (program : NormalForm) (a : Assignment) (made : IsWellMade program) (nu
       }
 
 -- the deals that were read are the deals of all hosts
-pub are_deals : (runs : Runs) → AreRead 2 runs → AreDeals runs.deals
+pub are_deals : (runs : Runs) → AreRead 2 runs → AreDeals runs.dealing.deals
 are_deals runs read =
-    let few : length runs.deals ≤ most_hosts = let limit = read.few in let all = read.all in omega (arith, limit, all) in
-    all_deals runs.deals few (subst (λ (n : ℕ). AreDealsOf n runs.deals) (sym read.all) read.deals)
+    let few : length runs.dealing.deals ≤ most_hosts = let limit = read.few in let all = read.all in omega (arith, limit, all) in
+    all_deals runs.dealing.deals few (subst (λ (n : ℕ). AreDealsOf n runs.dealing.deals) (sym read.all) read.deals)

@@ -68,11 +68,11 @@ module _ (protocols : List Proto) (none : commitment_in protocols ≡ None) (x :
 -- ---- the deal that explains
 
 module _ (p : NormalForm) (l : Labels) (protocols : List Proto) (h : HostId) (runs : Runs) where
-  pub excused_is : (stored : List Deal) → IsExcused p l protocols h runs.first runs.second runs.deals stored → excused_for p l protocols h runs ≡ Ok stored
+  pub excused_is : (stored : List Deal) → IsExcused p l protocols h runs.first runs.second runs.dealing.deals stored → excused_for p l protocols h runs ≡ Ok stored
   excused_is stored x =
-      ap (λ (o : Option ViewFault). as_excused o (excuse_files h.0 (plan_of p protocols) runs.first runs.second runs.deals)) x.no_fault
+      ap (λ (o : Option ViewFault). as_excused o (excuse_files h.0 (plan_of p protocols) runs.first runs.second runs.dealing.deals)) x.no_fault
       ∙ ap (λ (files : List Deal). let r : Result (List Deal) Status = Ok files in r) (sym x.files)
 
-  pub refused_is : (fault : ViewFault) → fault_at p l protocols h runs.first runs.second runs.deals ≡ Some fault
-      → excused_for p l protocols h runs ≡ as_excused (Some fault) (excuse_files h.0 (plan_of p protocols) runs.first runs.second runs.deals)
-  refused_is fault e = ap (λ (o : Option ViewFault). as_excused o (excuse_files h.0 (plan_of p protocols) runs.first runs.second runs.deals)) e
+  pub refused_is : (fault : ViewFault) → fault_at p l protocols h runs.first runs.second runs.dealing.deals ≡ Some fault
+      → excused_for p l protocols h runs ≡ as_excused (Some fault) (excuse_files h.0 (plan_of p protocols) runs.first runs.second runs.dealing.deals)
+  refused_is fault e = ap (λ (o : Option ViewFault). as_excused o (excuse_files h.0 (plan_of p protocols) runs.first runs.second runs.dealing.deals)) e

@@ -1,11 +1,11 @@
 -- The plan with a search that gives up wherever it may, beside that with any other.
-use Rattle.std.proofs.Common.{ℕ, ◌+◌, List, [], ◌∷◌, ◌++◌, length, codes, refl}
+use Rattle.std.proofs.Common.{ℕ, ◌+◌, List, [], ◌∷◌, length, codes, refl}
 use Rattle.vd_base.specs.Limits.{most_deal_bytes, most_inputs_bytes}
 use Rattle.vd_base.specs.declared.ids.HostId.{HostId}
 use Rattle.vd_outside.specs.Files.{Contents}
 use Rattle.vd_core.specs.declared.normal.NormalForm.{NormalForm}
 use Rattle.vd_cmd.specs.declared.command.ExcuseWords.{ExcuseWords}
-use Rattle.vd_tape.specs.declared.deal_items.deal.Deal.{Deal}
+use Rattle.vd_deal_versions.specs.declared.dealt.Dealt.{Dealt}
 use Rattle.vd_search_stages.specs.Choices.{ChoiceOutcomes}
 use Rattle.vd_cmd_plan.specs.Numbered.{file_name}
 use Rattle.vd_cmd_plan.specs.Plans.{Plan, check_then}
@@ -17,7 +17,8 @@ use Rattle.vd_cmd_depends.specs.Depending.{as_host}
 use Rattle.vd_cmd_choice.specs.Outcomes.{CertificateOutcomes}
 use Rattle.vd_cmd_choice.specs.Searching.{Searched, searched_by, sure_search}
 use Rattle.vd_cmd_files.specs.Outcomes.{ReplayOutcomes}
-use Rattle.vd_cmd_files.specs.Deals.{deal_of, deal_then, deals_from}
+use Rattle.vd_cmd_excuse.specs.declared.dealing.Dealing.{Dealing}
+use Rattle.vd_cmd_excuse.specs.Dealing.{dealing_from, dealt_of, dealt_then, no_dealing, with_dealt}
 use Rattle.vd_cmd_excuse.specs.declared.runs.Runs.{Runs}
 use Rattle.vd_cmd_excuse.specs.Runs.{runs_of}
 use Rattle.vd_cmd_excuse.specs.Excusing.{as_two, choice_plan, excuse_plan, host_plan, program_plan, runs_plan}
@@ -31,20 +32,20 @@ module _ (files : Contents) where
   inputs_follow texts name hosts sure plan each =
       file_follows name most_inputs_bytes (λ bytes. check_then (words_of texts hosts bytes) sure) (λ bytes. check_then (words_of texts hosts bytes) plan) files (λ bytes. check_follows (words_of texts hosts bytes) sure plan files each)
 
-  deal_follows : (outcomes : ReplayOutcomes) (prefix : List ℕ) (hosts number : ℕ) (name : List ℕ) (sure plan : Deal → Contents → Plan) → Each sure plan
-      → Follows (deal_then outcomes prefix hosts number name sure files) (deal_then outcomes prefix hosts number name plan files)
-  unfolding deal_then
-  deal_follows outcomes prefix hosts number name sure plan each =
-      file_follows (file_name prefix number (codes ".deal")) most_deal_bytes (λ bytes. check_then (deal_of outcomes hosts number name bytes) sure) (λ bytes. check_then (deal_of outcomes hosts number name bytes) plan) files
-      (λ bytes. check_follows (deal_of outcomes hosts number name bytes) sure plan files each)
+  dealt_follows : (prefix : List ℕ) (hosts number : ℕ) (name : List ℕ) (sure plan : Dealt → Contents → Plan) → Each sure plan
+      → Follows (dealt_then prefix hosts number name sure files) (dealt_then prefix hosts number name plan files)
+  unfolding dealt_then
+  dealt_follows prefix hosts number name sure plan each =
+      file_follows (file_name prefix number (codes ".deal")) most_deal_bytes (λ bytes. check_then (dealt_of hosts number name bytes) sure) (λ bytes. check_then (dealt_of hosts number name bytes) plan) files
+      (λ bytes. check_follows (dealt_of hosts number name bytes) sure plan files each)
 
-  deals_follow : (outcomes : ReplayOutcomes) (prefix : List ℕ) (hosts number : ℕ) (names : List (List ℕ)) (before : List Deal) (sure plan : List Deal → Contents → Plan) → Each sure plan
-      → Follows (deals_from outcomes prefix hosts number names before sure files) (deals_from outcomes prefix hosts number names before plan files)
-  unfolding deals_from
-  deals_follow outcomes prefix hosts number [] before sure plan each = each before
-  deals_follow outcomes prefix hosts number (name ∷ names) before sure plan each =
-      deal_follows outcomes prefix hosts number name (λ deal. deals_from outcomes prefix hosts (number + 1) names (before ++ deal ∷ []) sure) (λ deal. deals_from outcomes prefix hosts (number + 1) names (before ++ deal ∷ []) plan)
-      (λ deal. deals_follow outcomes prefix hosts (number + 1) names (before ++ deal ∷ []) sure plan each)
+  dealing_follows : (prefix : List ℕ) (hosts number : ℕ) (names : List (List ℕ)) (before : Dealing) (sure plan : Dealing → Contents → Plan) → Each sure plan
+      → Follows (dealing_from prefix hosts number names before sure files) (dealing_from prefix hosts number names before plan files)
+  unfolding dealing_from
+  dealing_follows prefix hosts number [] before sure plan each = each before
+  dealing_follows prefix hosts number (name ∷ names) before sure plan each =
+      dealt_follows prefix hosts number name (λ dealt. dealing_from prefix hosts (number + 1) names (with_dealt before dealt) sure) (λ dealt. dealing_from prefix hosts (number + 1) names (with_dealt before dealt) plan)
+      (λ dealt. dealing_follows prefix hosts (number + 1) names (with_dealt before dealt) sure plan each)
 
 module _ (texts : TextOutcomes) (outcomes : ReplayOutcomes) (least : LabelOutcomes) (certificates : CertificateOutcomes) (choices : ChoiceOutcomes) (searched : Searched) (words : ExcuseWords) (files : Contents) where
   host_follows : (p : NormalForm) (h : HostId) (runs : Runs)
@@ -64,7 +65,7 @@ module _ (texts : TextOutcomes) (outcomes : ReplayOutcomes) (least : LabelOutcom
   program_goes p =
       inputs_follow files texts words.inputs p.hosts _ _ (λ first.
       inputs_follow files texts words.second p.hosts _ _ (λ second.
-      deals_follow files outcomes words.prefix (length p.hosts) 0 p.hosts [] _ _ (λ deals. runs_follow p (runs_of first second deals))))
+      dealing_follows files words.prefix (length p.hosts) 0 p.hosts no_dealing _ _ (λ dealing. runs_follow p (runs_of first second dealing))))
 
   pub excuse_follows : Follows (excuse_plan texts outcomes least choices (sure_search choices) words files) (excuse_plan texts outcomes least choices (searched_by certificates choices searched) words files)
   excuse_follows =

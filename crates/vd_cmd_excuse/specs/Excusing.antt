@@ -1,5 +1,5 @@
 -- The command `excuse`.
-use Rattle.std.specs.Prelude.{ℕ, ◌-◌, nat_eq, true, not, if◌then◌else◌, Option, Some, None, List, [], ◌++◌, length, Result, Ok, Err, codes, slice_index_or}
+use Rattle.std.specs.Prelude.{ℕ, ◌-◌, nat_eq, true, not, if◌then◌else◌, Option, Some, None, List, [], ◌++◌, length, map, Result, Ok, Err, codes, slice_index_or}
 use Rattle.std.specs.List.{position}
 use Rattle.vd_base.specs.declared.ids.HostId.{HostId}
 use Rattle.vd_base.specs.declared.protocols.Proto.{Proto}
@@ -17,7 +17,10 @@ use Rattle.vd_cmd_plan.specs.Plans.{Plan, Executes, check_then, answer_then, end
 use Rattle.vd_cmd_plan.specs.declared.answer.Answer.{Answer}
 use Rattle.vd_cmd_plan.specs.declared.status.Status.{Status}
 use Rattle.vd_cmd_plan.specs.declared.status.Status.TheVariants.{Memory, NotTwo, HasCommit, DealShort, ViewDiffers}
-use Rattle.vd_cmd_deal.specs.Dealing.{deal_files}
+use Rattle.vd_channel_crypto.specs.declared.deal_keys.secrets.Secrets.{Secrets}
+use Rattle.vd_deal_versions.specs.Text.{text_by}
+use Rattle.vd_outside.specs.declared.stored.Stored.{Stored}
+use Rattle.vd_cmd_plan.specs.Numbered.{numbered}
 use Rattle.vd_cmd_labels.specs.Outcomes.{TextOutcomes, LabelOutcomes}
 use Rattle.vd_cmd_choice.specs.Programs.{program_then}
 use Rattle.vd_cmd_depends.specs.Depending.{as_host}
@@ -57,7 +60,8 @@ as_excused (Some view_fault.Memory) files = Err Memory
 
 abbrev pub excused_for : NormalForm → Labels → List Proto → HostId → Runs → Result (List Deal) Status
 excused_for p l protocols h runs =
-    as_excused (fault_at p l protocols h runs.first runs.second runs.deals) (excuse_files h.0 (plan_of p protocols) runs.first runs.second runs.deals)
+    as_excused (fault_at p l protocols h runs.first runs.second runs.dealing.deals)
+    (excuse_files h.0 (plan_of p protocols) runs.first runs.second runs.dealing.deals)
 
 -- ---- the answer
 
@@ -65,9 +69,23 @@ excused_for p l protocols h runs =
 abbrev pub talk_line : (names : List (List ℕ)) → HostId → List ℕ → List ℕ
 talk_line names h words = words_line (slice_index_or names (1 - h.0) [] ++ codes ">" ++ slice_index_or names h.0 []) words
 
+-- what the file of a host said of the dealing besides
+abbrev pub known_to : List (Option Secrets) → HostId → Option Secrets
+known_to secrets h = slice_index_or secrets h.0 None
+
+-- The file of a host is of the version of the one that was read for it: of version 2 by the same name and the same keys, so that both are
+-- one deal to who marks used ones.
+abbrev pub excused_text : List (Option Secrets) → Deal → List ℕ
+excused_text secrets deal = text_by deal (known_to secrets deal.me)
+
+abbrev pub excused_files : (out : List ℕ) → List (Option Secrets) → List Deal → List Stored
+excused_files out secrets deals = numbered out (codes ".deal") 0 (map (excused_text secrets) deals)
+
 -- a file for each host, and the words that the other host sends
 abbrev pub excuse_answer : NormalForm → List Proto → HostId → Runs → (out : List ℕ) → List Deal → Answer
-excuse_answer p protocols h runs out stored = ended (deal_files out stored) (talk_line p.hosts h (talk p protocols runs.first runs.deals (1 - h.0) h.0))
+excuse_answer p protocols h runs out stored =
+    ended (excused_files out runs.dealing.secrets stored)
+    (talk_line p.hosts h (talk p protocols runs.first runs.dealing.deals (1 - h.0) h.0))
 
 -- ---- the plan
 
@@ -79,7 +97,7 @@ excused_plan p l h runs out protocols = check_then (excused_for p l protocols h 
 abbrev pub assignment_plan : ReplayOutcomes → NormalForm → Labels → HostId → Runs → (out : List ℕ) → Assignment → Contents → Plan
 assignment_plan outcomes p l h runs out a =
     check_then (as_free (commitment_in a.protocols)) (λ free.
-    check_then (as_consistent (outcomes.judge runs.deals)) (λ consistent. excused_plan p l h runs out a.protocols))
+    check_then (as_consistent (outcomes.judge runs.dealing.deals)) (λ consistent. excused_plan p l h runs out a.protocols))
 
 -- if there is one
 abbrev pub choice_plan : ReplayOutcomes → HostId → Runs → (out : List ℕ) → NormalForm → Labels → Option Assignment → Contents → Plan
@@ -99,7 +117,7 @@ runs_plan outcomes least choices search words p runs =
 
 -- with a program, and with the one that is run for a source
 abbrev pub program_plan : TextOutcomes → ReplayOutcomes → LabelOutcomes → ChoiceOutcomes → Search → ExcuseWords → NormalForm → Contents → Plan
-program_plan texts outcomes least choices search words p = runs_then texts outcomes words p.hosts (runs_plan outcomes least choices search words p)
+program_plan texts outcomes least choices search words p = runs_then texts words p.hosts (runs_plan outcomes least choices search words p)
 
 abbrev pub excuse_plan : TextOutcomes → ReplayOutcomes → LabelOutcomes → ChoiceOutcomes → Search → ExcuseWords → Contents → Plan
 excuse_plan texts outcomes least choices search words = program_then texts least words.source (program_plan texts outcomes least choices search words)

@@ -1,3 +1,4 @@
+pub mod Dealing
 pub mod Runs
 pub mod Excusing
 pub mod Telling

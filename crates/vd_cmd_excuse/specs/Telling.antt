@@ -14,7 +14,6 @@ use Rattle.vd_cmd_plan.specs.Held.{Finds}
 use Rattle.vd_cmd_plan.specs.declared.answer.Answer.{Answer}
 use Rattle.vd_cmd_plan.specs.declared.status.Status.{Status}
 use Rattle.vd_cmd_plan.specs.declared.status.Status.TheVariants.{Ended}
-use Rattle.vd_cmd_deal.specs.Dealing.{deal_files}
 use Rattle.vd_cmd_labels.specs.Sources.{HoldsSource}
 use Rattle.vd_cmd_choice.specs.Choice.{IsSelected}
 use Rattle.vd_views.specs.Views.{alone}
@@ -23,11 +22,11 @@ use Rattle.vd_views.specs.Files.{IsExcuse}
 use Rattle.vd_excuse.specs.Talk.{talk}
 use Rattle.vd_cmd_excuse.specs.declared.runs.Runs.{Runs}
 use Rattle.vd_cmd_excuse.specs.Runs.{HoldRuns}
-use Rattle.vd_cmd_excuse.specs.Excusing.{talk_line}
+use Rattle.vd_cmd_excuse.specs.Excusing.{excused_files, talk_line}
 
 -- The program has two hosts, and none of the protocols of its choice is a commitment. The host of this name knows the same words of
--- both inputs. The files that are stored are those of deals which explain the second inputs to it, and what is printed is what the
--- other host sends it: the same in both runs.
+-- both inputs. The files that are stored are those of deals which explain the second inputs to it, each of the version of the file that
+-- was read, with its name and keys. What is printed is what the other host sends it: the same in both runs.
 pub record IsExcuseOf (name : List ℕ) (p : NormalForm) (runs : Runs) (out : List ℕ) (stored : List Stored) (printed : List ℕ) : Type 0 where
   pub assignment : Assignment
   pub selected : IsSelected p assignment
@@ -37,9 +36,9 @@ pub record IsExcuseOf (name : List ℕ) (p : NormalForm) (runs : Runs) (out : Li
   pub named : host_of p.hosts name ≡ Some host.0
   pub agree : AgreeFor p selected.labels assignment.protocols (alone host.0) runs.first runs.second
   pub deals : List Deal
-  pub explain : IsExcuse host.0 (plan_of p assignment.protocols) runs.first runs.second runs.deals deals
-  pub files : stored ≡ deal_files out deals
-  pub line : printed ≡ talk_line p.hosts host (talk p assignment.protocols runs.first runs.deals (1 - host.0) host.0)
+  pub explain : IsExcuse host.0 (plan_of p assignment.protocols) runs.first runs.second runs.dealing.deals deals
+  pub files : stored ≡ excused_files out runs.dealing.secrets deals
+  pub line : printed ≡ talk_line p.hosts host (talk p assignment.protocols runs.first runs.dealing.deals (1 - host.0) host.0)
   pub line_too : printed ≡ talk_line p.hosts host (talk p assignment.protocols runs.second deals (1 - host.0) host.0)
 
 -- of a program, on what the files say that the words name

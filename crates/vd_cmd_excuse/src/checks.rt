@@ -66,11 +66,11 @@ pub(crate) fn excused(
 ) -> Result<Deals, Status>
     requires host { host.0 < 2 }
     requires runnable { CanRunAt program.now protocols.now }
-    requires asked { AreAsked runs.now.first runs.now.second runs.now.deals }
+    requires asked { AreAsked runs.now.first runs.now.second runs.now.dealing.deals }
     ensures checks { (l : Labels) → IsOfTwo program.now l protocols.now →
         Checks (excused_for program.now l protocols.now host runs.now) result }
     ensures excused { (l : Labels) → IsOfTwo program.now l protocols.now →
-        IfOk result (IsExcused program.now l protocols.now host runs.now.first runs.now.second runs.now.deals) }
+        IfOk result (IsExcused program.now l protocols.now host runs.now.first runs.now.second runs.now.dealing.deals) }
 {
     match excuse(
         alloc,
@@ -79,7 +79,7 @@ pub(crate) fn excused(
         host,
         &runs.first,
         &runs.second,
-        &runs.deals,
+        &runs.dealing.deals,
     ) {
         Ok(deals) => Ok(deals),
         Err(ViewFault::Short(kind)) => Err(Status::DealShort(kind)),

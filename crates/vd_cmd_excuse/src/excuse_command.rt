@@ -12,6 +12,7 @@ ghost use Rattle.vd_cmd_excuse.specs.Telling.{TellsAt, TellsExcuse, TellsOf};
 
 use crate::answer::answer;
 use crate::checks::{excused, expect_free, expect_two};
+use crate::dealing::Dealing;
 use crate::runs::{Runs, load_runs};
 use std::alloc::Global;
 use vd_base::HostId;
@@ -43,13 +44,14 @@ fn excuse_at(
     let _form = program.form();
     let protocols = assignment.protocols.as_slice();
     expect_free(protocols)?;
-    expect_consistent(&runs.deals)?;
+    expect_consistent(&runs.dealing.deals)?;
     let stored = excused(alloc, program, protocols, host, &runs)?;
     let Runs {
         first,
         second: _,
-        deals,
+        dealing,
     } = runs;
+    let Dealing { deals, secrets } = dealing;
     let answer = answer(
         alloc,
         program,
@@ -57,6 +59,7 @@ fn excuse_at(
         host,
         &first,
         deals,
+        &secrets,
         stored.as_slice(),
         out,
     )?;

@@ -3,6 +3,7 @@
 
 mod answer;
 mod checks;
+mod dealing;
 mod excuse_command;
 mod laws;
 mod runs;

@@ -5,21 +5,20 @@ ghost use Rattle.vd_base.specs.Limits.{most_hosts};
 ghost use Rattle.vd_cmd_plan.specs.Held.{Finds};
 ghost use Rattle.vd_cmd_excuse.specs.Runs.{AreRead, HoldRuns, LoadsRuns};
 
+use crate::dealing::{Dealing, load_dealing};
 use std::alloc::Global;
 use vd_base::{Inputs, Names, inputs_fit};
 use vd_cmd::ExcuseWords;
-use vd_cmd_files::load_deals;
 use vd_cmd_labels::load_inputs;
 use vd_cmd_plan::Status;
 use vd_outside::Files;
-use vd_tape::Deals;
 
-/// The inputs of a run, other inputs, and the deals of the run.
+/// The inputs of a run, other inputs, and what the hosts of the run were dealt.
 #[derive(Drop)]
 pub(crate) struct Runs {
     pub first: Inputs,
     pub second: Inputs,
-    pub deals: Deals,
+    pub dealing: Dealing,
 }
 
 /// Fetches both inputs and the deals of these hosts, and reads them.
@@ -38,10 +37,10 @@ pub(crate) fn load_runs<F: Files>(
     inputs_fit(&first);
     let second = load_inputs(alloc, files, words.second.as_str(), names)?;
     inputs_fit(&second);
-    let deals = load_deals(alloc, files, words.prefix.as_str(), names.as_slice())?;
+    let dealing = load_dealing(alloc, files, words.prefix.as_str(), names.as_slice())?;
     Ok(Runs {
         first,
         second,
-        deals,
+        dealing,
     })
 }

@@ -24,7 +24,7 @@ pub answer-requires-clause-playable : goal.answer-requires-clause-playable
 answer-requires-clause-playable c =
     let two = chosen_two c.args.program.now c.args.assignment.now c.form-form.ensures.well_made c.form-form.ensures.fit c.requires.selected c.requires.host.two (rw c.as_slice-protocols.ensures at (c.in_ok-expect_free.ensures {u = tt}).free) in
     let excused_at = rw c.as_slice-protocols.ensures at (c.in_ok-stored.ensures {u = tt}).excused in
-    subst (λ (ps : List Proto). IsPlayable c.args.program.now ps c.args.runs.first c.args.runs.deals) (sym c.as_slice-protocols.ensures)
+    subst (λ (ps : List Proto). IsPlayable c.args.program.now ps c.args.runs.first c.args.runs.dealing.deals) (sym c.as_slice-protocols.ensures)
     (playable c.args.program.now c.args.assignment.now c.form-form.ensures.well_made c.form-form.ensures.fit c.requires.selected c.requires.host.two (rw c.as_slice-protocols.ensures at (c.in_ok-expect_free.ensures {u = tt}).free) c.args.host c.args.runs c.requires.read (c.in_ok-expect_consistent.ensures {u = tt}).consistent c.in_ok-stored.stored
     (excused_at c.requires.selected.labels two))
 

@@ -3,37 +3,37 @@ use Rattle.vd_cmd_excuse.proofs.Reading.{all_held, all_read, are_read, deals_ref
 use Rattle.vd_cmd_excuse.proofs.runs.load_runs.Goals as goal
 
 pub returns-in_err-first-clause-loads : goal.returns-in_err-first-clause-loads
-returns-in_err-first-clause-loads g c = λ texts outcomes.
+returns-in_err-first-clause-loads g c = λ texts.
     let p = err_from_is_err_and c.from_residual.result c.from_residual.ensures.1 in
     let one = rw c.as_str.ensures at ((c.in_err-first.ensures {u = tt}).loads texts) in
-    rw (p.1, p.2) (first_refused texts outcomes c.args.words.now c.args.names.now _ _ c.in_err-first.field-0.0 one)
+    rw (p.1, p.2) (first_refused texts c.args.words.now c.args.names.now _ _ c.in_err-first.field-0.0 one)
 
 pub returns-in_err-second-clause-loads : goal.returns-in_err-second-clause-loads
-returns-in_err-second-clause-loads g c = λ texts outcomes.
+returns-in_err-second-clause-loads g c = λ texts.
     let p = err_from_is_err_and c.from_residual-in_err-second.result c.from_residual-in_err-second.ensures.1 in
     let one = rw c.as_str.ensures at ((c.in_ok-first.ensures {u = tt}).loads texts) in
     let two = rw c.as_str-2.ensures at ((c.in_err-second.ensures {u = tt}).loads texts) in
-    rw (p.1, p.2) (second_refused texts outcomes c.args.words.now c.args.names.now _ _ c.in_ok-first.first one _ c.in_err-second.field-0.0 two)
+    rw (p.1, p.2) (second_refused texts c.args.words.now c.args.names.now _ _ c.in_ok-first.first one _ c.in_err-second.field-0.0 two)
 
-pub returns-in_err-deals-clause-loads : goal.returns-in_err-deals-clause-loads
-returns-in_err-deals-clause-loads g c = λ texts outcomes.
-    let p = err_from_is_err_and c.from_residual-in_err-deals.result c.from_residual-in_err-deals.ensures.1 in
+pub returns-in_err-dealing-clause-loads : goal.returns-in_err-dealing-clause-loads
+returns-in_err-dealing-clause-loads g c = λ texts.
+    let p = err_from_is_err_and c.from_residual-in_err-dealing.result c.from_residual-in_err-dealing.ensures.1 in
     let one = rw c.as_str.ensures at ((c.in_ok-first.ensures {u = tt}).loads texts) in
     let two = rw c.as_str-2.ensures at ((c.in_ok-second.ensures {u = tt}).loads texts) in
-    let three = rw (c.as_str-3.ensures, c.as_slice.ensures) at ((c.in_err-deals.ensures {u = tt}).loads outcomes) in
-    rw (p.1, p.2) (deals_refused texts outcomes c.args.words.now c.args.names.now _ _ c.in_ok-first.first one _ c.in_ok-second.second two _ c.in_err-deals.field-0.0 three)
+    let three = rw (c.as_str-3.ensures, c.as_slice.ensures) at (c.in_err-dealing.ensures {u = tt}).loads in
+    rw (p.1, p.2) (deals_refused texts c.args.words.now c.args.names.now _ _ c.in_ok-first.first one _ c.in_ok-second.second two _ c.in_err-dealing.field-0.0 three)
 
 pub returns-clause-loads : goal.returns-clause-loads
-returns-clause-loads g c = λ texts outcomes.
+returns-clause-loads g c = λ texts.
     let one = rw c.as_str.ensures at ((c.in_ok-first.ensures {u = tt}).loads texts) in
     let two = rw c.as_str-2.ensures at ((c.in_ok-second.ensures {u = tt}).loads texts) in
-    let three = rw (c.as_str-3.ensures, c.as_slice.ensures) at ((c.in_ok-deals.ensures {u = tt}).loads outcomes) in
-    all_read texts outcomes c.args.words.now c.args.names.now _ _ c.in_ok-first.first one _ c.in_ok-second.second two _ c.in_ok-deals.deals three
+    let three = rw (c.as_str-3.ensures, c.as_slice.ensures) at (c.in_ok-dealing.ensures {u = tt}).loads in
+    all_read texts c.args.words.now c.args.names.now _ _ c.in_ok-first.first one _ c.in_ok-second.second two _ c.in_ok-dealing.dealing three
 
 pub returns-clause-read : goal.returns-clause-read
 returns-clause-read g c =
     are_read c.args.names.now c.as_slice.result.now _ c.requires c.as_slice.ensures (c.in_ok-first.ensures {u = tt}).all c.inputs_fit.ensures (c.in_ok-second.ensures {u = tt}).all c.inputs_fit-2.ensures
-    (c.in_ok-deals.ensures {u = tt}).all (c.in_ok-deals.ensures {u = tt}).deals
+    (c.in_ok-dealing.ensures {u = tt}).all (c.in_ok-dealing.ensures {u = tt}).deals
 
 pub returns-clause-given : goal.returns-clause-given
 returns-clause-given g c =
@@ -41,7 +41,7 @@ returns-clause-given g c =
     let two = rw c.as_str-2.ensures at (c.in_ok-second.ensures {u = tt}).loads in
     let found_first = rw c.as_str.ensures at (c.in_ok-first.ensures {u = tt}).given in
     let found_second = rw c.as_str-2.ensures at (c.in_ok-second.ensures {u = tt}).given in
-    let found_deals = rw (c.as_str-3.ensures, c.as_slice.ensures) at (c.in_ok-deals.ensures {u = tt}).given in
-    let all = rw c.as_slice.ensures at (c.in_ok-deals.ensures {u = tt}).all in
+    let found_dealing = rw (c.as_str-3.ensures, c.as_slice.ensures) at (c.in_ok-dealing.ensures {u = tt}).given in
+    let all = rw c.as_slice.ensures at (c.in_ok-dealing.ensures {u = tt}).all in
     all_held c.args.words.now c.args.names.now (g.F.Files.view c.args.files.now) (g.F.Files.view c.load_inputs.new.files) (g.F.Files.view c.load_inputs-2.new.files) c.in_ok-first.first c.in_ok-second.second
-    c.in_ok-deals.deals one two found_first found_second found_deals all
+    c.in_ok-dealing.dealing one two found_first found_second found_dealing all
