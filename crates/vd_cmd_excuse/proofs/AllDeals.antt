@@ -1,5 +1,5 @@
 -- The files of all hosts, one after the other: whatever follows, the plan from here on completes the plan from the start.
-use Rattle.std.proofs.Common.{◌≡◌, ℕ, ◌+◌, ◌<◌, ◌≤◌, suc, true, IsTrue, List, [], ◌∷◌, ◌++◌, length, length-append, drop, get_or, Option, Some, Result, Ok, Err, inl, inr, sym, ap, ◌∙◌, subst, arith, add-one, drop-cons}
+use Rattle.std.proofs.Common.{◌≡◌, ℕ, ◌+◌, ◌<◌, ◌≤◌, suc, true, IsTrue, List, [], ◌∷◌, ◌++◌, length, length-append, drop, get_or, Some, Result, Ok, Err, inl, inr, sym, ap, ◌∙◌, subst, arith, add-one, drop-cons}
 use Rattle.std.specs.Prelude.{slice_get}
 use Rattle.std.proofs.Math.ListN.{drop_of_length-le}
 use Rattle.std.proofs.Math.Seq.{get_or-append_seam}

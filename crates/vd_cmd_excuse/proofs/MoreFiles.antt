@@ -1,5 +1,5 @@
 -- One more host's file.
-use Rattle.std.proofs.Common.{◌≡◌, ℕ, ◌+◌, ◌<◌, List, [], ◌∷◌, ◌++◌, get_or, length, take, map, codes, Option, refl, sym, ap, ◌∙◌, arith}
+use Rattle.std.proofs.Common.{◌≡◌, ℕ, ◌+◌, ◌<◌, List, [], ◌∷◌, ◌++◌, get_or, length, take, map, codes, Option, sym, ap, ◌∙◌, arith}
 use Rattle.std.proofs.lemmas.List.{map-append, length-map, length-take-le}
 use Rattle.std.proofs.lemmas.Grind.{take_at_read}
 use Rattle.vd_outside.specs.declared.stored.Stored.{Stored}

@@ -8,7 +8,7 @@ use Rattle.vd_tape.specs.Text.{IsDealOf}
 use Rattle.vd_channel_crypto.specs.declared.deal_keys.secrets.Secrets.{Secrets}
 use Rattle.vd_deal_versions.specs.declared.dealt.Dealt.{Dealt}
 use Rattle.vd_deal_versions.specs.Reading.{dealt_read}
-use Rattle.vd_deal_versions.specs.Text.{Fit_by, IsDealtFile, IsDealtOf}
+use Rattle.vd_deal_versions.specs.Text.{Fit_by, IsDealtOf}
 use Rattle.vd_cmd_plan.specs.Held.{Finds, IsHeld}
 use Rattle.vd_cmd_plan.specs.Loads.{Loads}
 use Rattle.vd_cmd_plan.specs.Numbered.{file_name}
@@ -38,7 +38,7 @@ dealt_given hosts me name bytes dealt is = ap (as_dealt name me) is
 
 pub dealt_refused : (hosts me : ℕ) (name bytes : List ℕ) (offset : ℕ) → IsFaultOf (dealt_read hosts me bytes) (file_fault.Text offset)
     → dealt_of hosts me name bytes ≡ Err (DealText name me offset)
-dealt_refused hosts me name bytes offset is = ap (as_dealt name me) is.1.0 ∙ ap (λ (n : ℕ). Err (DealText name me n)) (sym is.1.1)
+dealt_refused hosts me name bytes offset is = ap (as_dealt name me) is.1 ∙ ap (λ (n : ℕ). Err (DealText name me n)) (sym is.2)
 
 module _ (prefix : List ℕ) (hosts number : ℕ) (name : List ℕ) where
   pub dealt_err : (file : List ℕ) (before now : FilesView) (status : Status) → file ≡ file_name prefix number (codes ".deal") → Loads file most_deal_bytes before now (Err status)

@@ -1,10 +1,8 @@
 -- The step that reads the deals of all hosts, with what each host knows of its dealing besides.
-use Rattle.std.specs.Prelude.{◌≡◌, ℕ, ◌+◌, List, [], ◌∷◌, ◌++◌, length, slice_get, Option, Some, Result, Ok, Err, codes}
+use Rattle.std.specs.Prelude.{◌≡◌, ℕ, ◌+◌, List, [], ◌∷◌, ◌++◌, length, slice_get, Some, Result, Ok, Err, codes}
 use Rattle.vd_base.specs.Limits.{most_deal_bytes}
 use Rattle.vd_outside.specs.Files.{Contents}
 use Rattle.vd_base_codec.specs.Reading.{capped}
-use Rattle.vd_tape.specs.declared.deal_items.deal.Deal.{Deal}
-use Rattle.vd_channel_crypto.specs.declared.deal_keys.secrets.Secrets.{Secrets}
 use Rattle.vd_deal_versions.specs.declared.dealt.Dealt.{Dealt}
 use Rattle.vd_deal_versions.specs.Reading.{dealt_read}
 use Rattle.vd_deal_versions.specs.Text.{IsDealtFile}
