@@ -60,9 +60,9 @@ are_read names seen runs few same first first_words second second_words all deal
 pub all_held : (words : ExcuseWords) (names : List (List ℕ)) (before mid late : FilesView) (first second : List (List ℕ)) (dealing : Dealing)
     → ((texts : TextOutcomes) → ExecutesStep (inputs_then texts words.inputs names) before mid (Ok first)) → ((texts : TextOutcomes) → ExecutesStep (inputs_then texts words.second names) mid late (Ok second))
     → (IsTrue before.told → HoldsInputs words.inputs names before.contents first) → (IsTrue mid.told → HoldsInputs words.second names mid.contents second)
-    → (IsTrue late.told → HoldDealing words.prefix (length names) late.contents dealing) → length dealing.deals ≡ length names
+    → (IsTrue late.told → HoldDealing words.prefix (length names) late.contents dealing) → length dealing.deals ≡ length names → length dealing.secrets ≡ length names
     → IsTrue before.told → HoldRuns words names before.contents (runs_of first second dealing)
-all_held words names before mid late first second dealing one two found_first found_second found_dealing all t =
+all_held words names before mid late first second dealing one two found_first found_second found_dealing all known t =
     let a = one some_texts in
     let b = two some_texts in
     let mid_told = step_tells (inputs_then some_texts words.inputs names) before mid first a t in
@@ -74,4 +74,5 @@ all_held words names before mid late first second dealing one two found_first fo
       second = subst (λ (files : Contents). HoldsInputs words.second names files second) mid_same (found_second mid_told);
       dealing = subst (λ (files : Contents). HoldDealing words.prefix (length names) files dealing) (late_same ∙ mid_same) (found_dealing late_told);
       all = all;
+      known = known;
     }

@@ -48,3 +48,4 @@ pub record HoldRuns (words : ExcuseWords) (names : List (List ℕ)) (contents : 
   pub second : HoldsInputs words.second names contents runs.second
   pub dealing : HoldDealing words.prefix (length names) contents runs.dealing
   pub all : length runs.dealing.deals ≡ length names
+  pub known : length runs.dealing.secrets ≡ length names

@@ -89,6 +89,7 @@ pub(crate) fn load_dealing<F: Files>(
     ensures loads { ExecutesStep (dealing_then prefix.now names.now) (F.view files.old) (F.view files.new) result }
     ensures deals { IfOk result (λ dealing. AreDealsOf (length names.now) dealing.deals) }
     ensures all { IfOk result (λ dealing. length dealing.deals ≡ length names.now) }
+    ensures known { IfOk result (λ dealing. length dealing.secrets ≡ length names.now) }
     ensures given { Finds (F.view files.old) result (HoldDealing prefix.now (length names.now)) }
 {
     let hosts = names.len() as u8;

@@ -43,5 +43,6 @@ returns-clause-given g c =
     let found_second = rw c.as_str-2.ensures at (c.in_ok-second.ensures {u = tt}).given in
     let found_dealing = rw (c.as_str-3.ensures, c.as_slice.ensures) at (c.in_ok-dealing.ensures {u = tt}).given in
     let all = rw c.as_slice.ensures at (c.in_ok-dealing.ensures {u = tt}).all in
+    let known = rw c.as_slice.ensures at (c.in_ok-dealing.ensures {u = tt}).known in
     all_held c.args.words.now c.args.names.now (g.F.Files.view c.args.files.now) (g.F.Files.view c.load_inputs.new.files) (g.F.Files.view c.load_inputs-2.new.files) c.in_ok-first.first c.in_ok-second.second
-    c.in_ok-dealing.dealing one two found_first found_second found_dealing all
+    c.in_ok-dealing.dealing one two found_first found_second found_dealing all known
