@@ -6,7 +6,9 @@ mod Empty
 mod Order
 mod Brought
 mod Tables
-mod Sinking
+mod Growing
+mod Ranking
+mod Stable
 mod Sorted
 mod Worked
 mod Kept

@@ -1,7 +1,7 @@
 pub mod Testing
 pub mod Passing
 pub mod Order
-pub mod Depths
+pub mod Ranks
 pub mod Sorting
 pub mod Examples
 pub mod Packets

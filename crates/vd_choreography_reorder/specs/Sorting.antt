@@ -1,51 +1,60 @@
--- The order of the pass: joint code sorted by rank, as far as neighbours may be exchanged. What ranks alike stays in its order.
-use Rattle.std.specs.Prelude.{◌≡◌, nat_lt, Bool, false, ◌&&◌, if◌then◌else◌, List, [], ◌∷◌}
+-- The order of the pass: joint code sorted by rank. What ranks alike stays in its order.
+use Rattle.std.specs.Prelude.{◌≡◌, ℕ, ◌≤◌, nat_eq, nat_lt, true, if◌then◌else◌, List, [], ◌∷◌}
+use Rattle.std.specs.List.{filter}
 use Rattle.vd_execution.specs.declared.instructions.Line.{Line}
 use Rattle.vd_execution.specs.Joint.{Joint, IsTidy}
 use Rattle.vd_execution.specs.Text.{flat}
-use Rattle.vd_choreography_reorder.specs.declared.depths.Ranked.{Ranked}
+use Rattle.vd_choreography_reorder.specs.declared.ranks.Ranked.{Ranked}
 use Rattle.vd_choreography_reorder.specs.Testing.{Opened, may_pass}
 use Rattle.vd_choreography_reorder.specs.Order.{IsBroughtForward}
 use Rattle.vd_choreography_reorder.specs.Passing.{passes}
-use Rattle.vd_choreography_reorder.specs.Depths.{none_waits, ranked, lines_of}
+use Rattle.vd_choreography_reorder.specs.Ranks.{nothing_left, ranked, lines_of}
 
--- A line goes behind its neighbour where that ranks lower and may pass.
-abbrev pub goes_behind : Opened → Ranked → Ranked → Bool
-goes_behind opened x y = nat_lt y.rank x.rank && passes (may_pass opened) x.line y.line
+-- a line behind those that rank lower
+abbrev pub placed : Ranked → List Ranked → List Ranked
+placed x [] = x ∷ []
+placed x (y ∷ ys) = if nat_lt y.rank x.rank then y ∷ placed x ys else x ∷ y ∷ ys
 
--- a line behind as many others as it goes
-abbrev pub inserted : Opened → Ranked → List Ranked → List Ranked
-inserted opened x [] = x ∷ []
-inserted opened x (y ∷ ys) = if goes_behind opened x y then y ∷ inserted opened x ys else x ∷ y ∷ ys
-
--- insertion sort, from the end
-abbrev pub sorted : Opened → List Ranked → List Ranked
-sorted opened [] = []
-sorted opened (x ∷ xs) = inserted opened x (sorted opened xs)
+-- a stable sort by rank
+abbrev pub in_order : List Ranked → List Ranked
+in_order [] = []
+in_order (x ∷ xs) = placed x (in_order xs)
 
 -- the lines in an order that waits less
 abbrev pub early_order : Opened → List Line → List Line
-early_order opened lines = lines_of (sorted opened (ranked opened none_waits lines))
-
--- the first of some lines
-abbrev pub first_inserted : Opened → List Ranked → List Ranked
-first_inserted opened [] = []
-first_inserted opened (x ∷ xs) = inserted opened x xs
+early_order opened lines = lines_of (in_order (ranked opened nothing_left lines))
 
 -- ---- what holds of it
 
--- A line does not go behind what follows.
-abbrev pub Stays : Opened → Ranked → List Ranked → Type 0
-Stays opened x [] = Unit {0}
-Stays opened x (y ∷ ys) = goes_behind opened x y ≡ false
+-- the lines of a rank, in their order
+abbrev pub of_rank : ℕ → List Ranked → List Ranked
+of_rank n list = filter (λ x. nat_eq x.rank n) list
 
-abbrev pub AllStay : Opened → List Ranked → Type 0
-AllStay opened [] = Unit {0}
-AllStay opened (x ∷ xs) = Stays opened x xs × AllStay opened xs
+abbrev pub RankAtLeast : ℕ → List Ranked → Type 0
+RankAtLeast n [] = Unit {0}
+RankAtLeast n (x ∷ xs) = (n ≤ x.rank) × RankAtLeast n xs
 
--- No line is left that would go behind its neighbour.
-abbrev pub NothingIsLeftToSort : Type 0
-NothingIsLeftToSort = (opened : Opened) (xs : List Ranked) → AllStay opened (sorted opened xs)
+abbrev pub Ascend : List Ranked → Type 0
+Ascend [] = Unit {0}
+Ascend (x ∷ xs) = RankAtLeast x.rank xs × Ascend xs
+
+-- Ranks ascend, and of each rank there are the lines that there were, in their order.
+abbrev pub LinesStandByRank : Type 0
+LinesStandByRank = (xs : List Ranked) → Ascend (in_order xs) × ((n : ℕ) → of_rank n (in_order xs) ≡ of_rank n xs)
+
+-- ---- no line asks for an exchange that may not be made
+
+-- What ranks lower than a line and stood behind it may pass it.
+abbrev pub LowerOnesPass : Opened → Ranked → List Ranked → Type 0
+LowerOnesPass opened x [] = Unit {0}
+LowerOnesPass opened x (y ∷ ys) = (nat_lt y.rank x.rank ≡ true → passes (may_pass opened) x.line y.line ≡ true) × LowerOnesPass opened x ys
+
+abbrev pub AreApart : Opened → List Ranked → Type 0
+AreApart opened [] = Unit {0}
+AreApart opened (x ∷ xs) = LowerOnesPass opened x xs × AreApart opened xs
+
+abbrev pub RanksAreApart : Type 0
+RanksAreApart = (opened : Opened) (j : Joint) → IsTidy j → AreApart opened (ranked opened nothing_left (flat j []))
 
 -- Tidy code in this order tells the same.
 abbrev pub SortedCodeIsBroughtForward : Type 0

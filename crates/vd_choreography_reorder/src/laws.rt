@@ -3,7 +3,7 @@
 ghost use Rattle.vd_choreography_reorder.specs.Examples.{DrawnWordsAreToldFirst, OpenedWordsStay, WordsGoSideBySide};
 ghost use Rattle.vd_choreography_reorder.specs.Order.{CodeThatIsBroughtForwardRunsOn, OrderIsKept};
 ghost use Rattle.vd_choreography_reorder.specs.Passing.{ArrangedLinesAreBroughtForward};
-ghost use Rattle.vd_choreography_reorder.specs.Sorting.{NothingIsLeftToSort, SortedCodeIsBroughtForward};
+ghost use Rattle.vd_choreography_reorder.specs.Sorting.{LinesStandByRank, RanksAreApart, SortedCodeIsBroughtForward};
 ghost use Rattle.vd_choreography_reorder.specs.Testing.{TestIsSound};
 
 /// The test by registers and lists says yes only where neighbours in joint code may be exchanged.
@@ -24,9 +24,14 @@ pub fn passes_bring_forward()
     ensures runs { CodeThatIsBroughtForwardRunsOn }
 {}
 
-/// In the order of the pass no two neighbours are left of which the second ranks lower and may pass the first.
+/// In the order of the pass ranks ascend, and of each rank the lines stand in the order that they had.
 pub fn order_is_sorted()
-    ensures { NothingIsLeftToSort }
+    ensures { LinesStandByRank }
+{}
+
+/// In tidy code what ranks lower than a line before it may pass it: so the pass makes no exchange that may not be made.
+pub fn ranks_are_apart()
+    ensures { RanksAreApart }
 {}
 
 /// Worked lines: masked words of two gadgets go side by side, a drawn word is told before it is used, and a word that is opened stays

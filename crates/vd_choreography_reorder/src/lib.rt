@@ -1,16 +1,17 @@
 //! Joint code in an order that waits less: what hosts do together is exchanged with its neighbours before it is split, so that what does
-//! not depend on each other goes side by side. It is sorted by depth, the longest chain of rounds that a line waits for, as far as
-//! neighbours may be exchanged. What a host compares, prints and opens keeps its order.
+//! not depend on each other goes side by side. It is sorted by depth, the longest chain of rounds that a line waits for. What a host compares, prints and opens keeps its order.
 #![tactic(auto)]
 
 mod choreography_coalescing;
 mod choreography_packets;
-mod depths;
 mod laws;
 mod passing;
-mod testing;
+mod ranks;
 
 pub use choreography_coalescing::{join_packets, joined_code_tells_the_same};
 pub use choreography_packets::{nothing_is_told_earlier, packets_are_kept};
-pub use laws::{order_is_kept, order_is_sorted, passes_bring_forward, test_is_sound, worked_lines};
+pub use laws::{
+    order_is_kept, order_is_sorted, passes_bring_forward, ranks_are_apart, test_is_sound,
+    worked_lines,
+};
 pub use passing::bring_forward;

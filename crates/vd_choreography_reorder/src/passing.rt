@@ -1,49 +1,22 @@
-//! The pass over the lines of joint code, from the end to the front.
+//! The pass over the lines of joint code: a stable sort by rank.
 
-ghost use Rattle.std.specs.Prelude.{◌≡◌, ◌++◌, ◌<◌, [], IfOk, length, take, drop};
+ghost use Rattle.std.specs.Prelude.{◌≡◌, [], IfOk, OnOk};
 ghost use Rattle.vd_execution.specs.Joint.{Joint, IsTidy};
 ghost use Rattle.vd_execution.specs.Text.{flat};
 ghost use Rattle.vd_choreography_reorder.specs.Order.{IsBroughtForward};
-ghost use Rattle.vd_choreography_reorder.specs.Sorting as sorting;
-ghost use Rattle.vd_choreography_reorder.specs.Sorting.{early_order, first_inserted, sorted};
+ghost use Rattle.vd_choreography_reorder.specs.Sorting.{early_order, in_order};
 ghost use Rattle.vd_choreography_reorder.specs.Testing.{opened_at};
 
-use crate::depths::{Ranked, lines_of, rank_lines};
-use crate::testing::passes_line;
+use crate::ranks::{Ranked, lines_of, rank_lines};
 use std::alloc::{AllocError, Global};
 use vd_base::Items;
 use vd_execution::{Line, Reg};
 
-/// Whether a line goes behind its neighbour: where that ranks lower and may pass.
-fn goes_behind(opened: &[Items<Reg>], first: &Ranked, second: &Ranked) -> bool
-    ensures { result ≡ sorting.goes_behind (opened_at opened.now) first.now second.now }
+/// Sorts lines by rank. What ranks alike stays in its order.
+fn sort_by_rank(alloc: Global, list: &mut [Ranked]) -> Result<(), AllocError>
+    ensures { OnOk result (list.new ≡ in_order list.old) }
 {
-    second.rank < first.rank && passes_line(opened, &first.line, &second.line)
-}
-
-/// Lets one line go behind its neighbours, as far as it goes.
-fn sink(list: &mut [Ranked], start: usize, opened: &[Items<Reg>])
-    requires { start < length list.old }
-    ensures { list.new ≡ take start list.old ++ first_inserted (opened_at opened.now) (drop start list.old) }
-{
-    let mut place = start;
-    'neighbours: while place + 1 < list.len()
-        && goes_behind(opened, &list[place], &list[place + 1])
-    {
-        list.swap(place, place + 1);
-        place += 1;
-    }
-}
-
-/// Lets each line go behind its neighbours, the last one first.
-fn sink_all(list: &mut [Ranked], opened: &[Items<Reg>])
-    ensures { list.new ≡ sorted (opened_at opened.now) list.old }
-{
-    let mut left = list.len();
-    'places: while left > 0 {
-        left -= 1;
-        sink(list, left, opened);
-    }
+    list.sort_by_key(alloc, |line| line.rank)
 }
 
 /// The lines in an order that waits less.
@@ -56,13 +29,13 @@ fn arrange(
 {
     let ranked = rank_lines(alloc, lines, opened)?;
     let mut list = ranked.into_vec();
-    sink_all(list.as_mut_slice(), opened);
+    sort_by_rank(alloc, list.as_mut_slice())?;
     lines_of(alloc, Items::from_vec(list))
 }
 
 /// Joint code in an order that waits less, where each host's packets open some registers (`opened`, by host): sorted by depth, the longest
-/// chain of rounds that a line waits for, as far as neighbours may be exchanged. What a host compares, prints and opens stays behind all
-/// that it compared, printed, opened and awaited before.
+/// chain of rounds that a line waits for. No line goes before one that it may not pass. What a host compares, prints and opens stays behind
+/// all that it compared, printed, opened and awaited before.
 pub fn bring_forward(
     alloc: Global,
     lines: Items<Line>,
