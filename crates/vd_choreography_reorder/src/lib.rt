@@ -1,5 +1,6 @@
 //! Joint code in an order that waits less: what hosts do together is exchanged with its neighbours before it is split, so that what does
-//! not depend on each other goes side by side. It is sorted by depth, the longest chain of rounds that a line waits for. What a host compares, prints and opens keeps its order.
+//! not depend on each other goes side by side. It is sorted by depth, the longest chain of rounds that a line waits for. What a host
+//! compares, prints and opens keeps its order.
 #![tactic(auto)]
 
 mod choreography_coalescing;
