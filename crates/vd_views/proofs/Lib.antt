@@ -39,6 +39,7 @@ mod Turns
 mod ViewsProgramsHiding
 mod Steps
 mod ViewsProgramsBlocks
+mod Aligned
 mod Theorem
 mod PairUp
 mod AnyOrder

@@ -32,7 +32,8 @@ use Rattle.vd_backend_laws.specs.Whole.{inputs_of, CanRun, RunsAsToldBy}
 use Rattle.vd_backend_laws.specs.Given.{zero_deal}
 use Rattle.vd_backend_laws.proofs.Front.{zero_deals_are_valid, suite_laws, suite_places, within}
 use Rattle.vd_projection.proofs.Front.{can_run, each_has, assignments_tell_the_same}
-use Rattle.vd_views.specs.Views.{Coalition, IsIn, IsOut, alone}
+use Rattle.vd_views.specs.Views.{Coalition, IsIn, IsOut, alone, everyone}
+use Rattle.vd_views.specs.Plans.{PlanChooses}
 use Rattle.vd_views.specs.Hiding.{IsAnotherDeal}
 use Rattle.vd_views.specs.Hides.{Hides}
 use Rattle.vd_views.specs.Contract.{InputWords, with_inputs, GoesBack, CanBeExcused, IsExplained}
@@ -43,10 +44,11 @@ use Rattle.vd_noninter_protocols.specs.Hearing.{Heard, heard_step, heard_in_orde
 use Rattle.vd_noninter_protocols.specs.Told.{IsDealt}
 use Rattle.vd_views.specs.Sides.{AreKin, Both, PlanIsPlain, OwnsInSight, OnlyOutside, AreBelow}
 use Rattle.vd_views.proofs.ViewsBackendsPlans.{one_outside}
-use Rattle.vd_views.specs.Explained.{IsFree, IsCoalition, plan_of, input_words, AgreeFor, OthersAreExplained, ExplainedBack, AllButOneLook, OneOfTwoLooks}
+use Rattle.vd_views.specs.Explained.{IsFree, IsCoalition, plan_of, input_words, AgreeFor, InputsChooseBranches, OthersAreExplained, ExplainedBack, AllButOneLook, OneOfTwoLooks}
 use Rattle.vd_views.proofs.Plain.{plan_plain}
 use Rattle.vd_views.proofs.Steps.{Static, Concluded}
 use Rattle.vd_views.proofs.ViewsProgramsBlocks.{Fitting, follows}
+use Rattle.vd_views.proofs.Aligned.{Fitting as FitsBoth, aligned}
 
 all_dropped : (xs : List ℕ) → drop 0 xs ≡ xs
 all_dropped [] = refl
@@ -162,6 +164,35 @@ module _ (p : NormalForm) (l : Labels) (protocols : List Proto) (free : IsFree p
         subst (OwnsInSight K) (sym plan_is)
         (one_outside K hosts k only (first_ones 0 hosts) (λ g i. let lt = first_below 0 hosts g i in omega (arith, lt)) tree tidy plain within_tree)
 
+  -- ---- two runs on the same inputs
+
+  module _ (inputs : List (List ℕ)) (t u : Tape) (dealt : IsDealt inputs t) (dealt_too : IsDealt inputs u) where
+    fits_both : FitsBoth t u (inputs_of inputs) hosts protocols (laws inputs t dealt) (laws inputs u dealt_too) (can inputs t dealt).over b nothing_seen 0 (λ g. false)
+    fits_both = record {
+      row = row_of 0 (length p.slots) (slots (block_of p.body)) (sym (ap concat (fold_each slots_step p.body)) ∙ free.chosen.made.in_order);
+      seen = ap (λ (s : List Seeing). (seeing_all s nothing_seen).all) (sym (fold_each seeing_step p.body)) ∙ free.chosen.made.made_before;
+      fits = all_fit p free.chosen.made free.chosen.numbers;
+      placed = (can inputs t dealt).valid;
+      placed_too = (can inputs u dealt_too).valid;
+      needs = λ g i. absurd (no_turns (machine t (inputs_of inputs)) (suite t (inputs_of inputs) (length p.hosts)) proto p free.chosen.made g i);
+      needs_too = λ g i. absurd (no_turns (machine u (inputs_of inputs)) (suite u (inputs_of inputs) (length p.hosts)) proto p free.chosen.made g i);
+    }
+
+    no_turn : {X : Type 0} → false ≡ true → X
+    no_turn e = cc
+
+    branches_same : PlanChooses everyone t u tree fresh fresh
+    branches_same =
+        aligned t u (inputs_of inputs) hosts protocols (laws inputs t dealt) (laws inputs u dealt_too) (can inputs t dealt).over b nothing_seen 0 (λ g. false) fits_both
+        begin fresh fresh (start p inputs) 0 refl (omega arith)
+        (record {
+          first = tied_at_start (machine t (inputs_of inputs)) (suite t (inputs_of inputs) (length p.hosts)) proto (length p.hosts) refl inputs fresh (starts inputs t dealt);
+          first_turn = λ g lt i. no_turn i;
+          second = tied_at_start (machine u (inputs_of inputs)) (suite u (inputs_of inputs) (length p.hosts)) proto (length p.hosts) refl inputs fresh (starts inputs u dealt_too);
+          second_turn = λ g lt i. no_turn i;
+        })
+        (tidy inputs t dealt)
+
   -- ---- two runs
 
   module _ (K : Coalition) (together : IsCoalition p protocols K) (first second : List (List ℕ)) (t : Tape) (dealt : IsDealt first t) (agree : AgreeFor p l protocols K first second) where
@@ -237,6 +268,10 @@ module _ (p : NormalForm) (l : Labels) (protocols : List Proto) (free : IsFree p
 
     it_explains : IsExplained K (plan_of p protocols) t (input_words second)
     it_explains = subst (λ (plan : Plan Gadget). IsExplained K plan t (input_words second)) (sym plan_is) (explained K tree t (input_words second) condition)
+
+pub inputs_choose_branches : InputsChooseBranches
+inputs_choose_branches p l protocols free inputs t u dealt dealt_too =
+    subst (λ (plan : Plan Gadget). PlanChooses everyone t u plan fresh fresh) (sym (plan_is p l protocols free)) (branches_same p l protocols free inputs t u dealt dealt_too)
 
 pub others_are_explained : OthersAreExplained
 others_are_explained p l protocols free K together first second t dealt agree = it_explains p l protocols free K together first second t dealt agree

@@ -102,7 +102,7 @@ taken_host (q ∷ given) (k ∷ ks) h e (inl i) = inl (i ∙ first_is q.0 k.0 (m
 taken_host (q ∷ given) (k ∷ ks) h e (inr i) = inr (taken_host given ks h (rest_is q.0 k.0 (map (λ z. z.0) given) (map (λ z. z.0) ks) e) i)
 
 -- where h has a guard in both runs, and looks alike, the guards are the same
-abbrev HasGuards : List ℕ → Hosts → ℕ → List Part → Type 0
+abbrev pub HasGuards : List ℕ → Hosts → ℕ → List Part → Type 0
 HasGuards next w a given = Each (λ q. ((w q.0).registers q.1 ≡ a) × (q.1 < slice_index next q.0)) given
 
 same_guard : (next : List ℕ) (w v : Hosts) (a b h : ℕ) (given : List Part) → TakesPart given h → HasGuards next w a given → HasGuards next v b given → w h ≡ v h → a ≡ b
@@ -112,7 +112,7 @@ same_guard next w v a b h (g ∷ given) (inl i) p q e =
     sym p.0.0 ∙ ap (λ (k : Host). k.registers g.1) (subst P i e) ∙ q.0.0
 same_guard next w v a b h (g ∷ given) (inr i) p q e = same_guard next w v a b h given i p.1 q.1 e
 
-goes_other : (next : List ℕ) (w : Hosts) (a h : ℕ) (given : List Part) → TakesPart given h → HasGuards next w a given → is_other given w ≡ nat_eq a 0
+pub goes_other : (next : List ℕ) (w : Hosts) (a h : ℕ) (given : List Part) → TakesPart given h → HasGuards next w a given → is_other given w ≡ nat_eq a 0
 goes_other next w a h [] i p = absurd i
 goes_other next w a h (g ∷ given) i p = ap (λ z. nat_eq z 0) p.0.0
 

@@ -7,12 +7,14 @@ use Rattle.vd_base.specs.Holders.{proto_in}
 use Rattle.vd_core.specs.declared.normal.NormalForm.{NormalForm}
 use Rattle.vd_constraints.specs.declared.labels.Labels.{Labels}
 use Rattle.vd_execution.specs.World.{Tape}
+use Rattle.vd_execution.specs.Joint.{fresh}
 use Rattle.vd_execution.specs.Gadgets.{Gadget}
 use Rattle.vd_execution.specs.Plans.{Plan}
 use Rattle.vd_backend_laws.specs.Parts.{has_back_end}
 use Rattle.vd_backend_laws.specs.Whole.{plan_at, inputs_of}
 use Rattle.vd_projection.specs.Assignments.{IsValidFor}
-use Rattle.vd_views.specs.Views.{Coalition, IsIn, alone}
+use Rattle.vd_views.specs.Views.{Coalition, IsIn, alone, everyone}
+use Rattle.vd_views.specs.Plans.{PlanChooses}
 use Rattle.vd_views.specs.Contract.{InputWords, IsExplained, GoesBack}
 use Rattle.vd_noninter_protocols.specs.Assigned.{heard_words}
 use Rattle.vd_noninter_protocols.specs.Told.{IsDealt}
@@ -40,6 +42,12 @@ input_words inputs g i = slice_index (inputs_of inputs g) i
 pub record IsCoalition (p : NormalForm) (protocols : List Proto) (K : Coalition) : Type 0 where
   pub declared : (g : ℕ) → IsIn K g → g < length p.hosts
   pub sight : OwnsInSight K (plan_of p protocols)
+
+-- whatever is dealt, each run on these inputs takes the same branches
+abbrev pub InputsChooseBranches : Type 0
+InputsChooseBranches =
+    (p : NormalForm) (l : Labels) (protocols : List Proto) → IsFree p l protocols → (inputs : List (List ℕ)) (t u : Tape) → IsDealt inputs t → IsDealt inputs u
+    → PlanChooses everyone t u (plan_of p protocols) fresh fresh
 
 -- other inputs of words: each host of the coalition has the same, and the same clear words come to it
 pub record AgreeFor (p : NormalForm) (l : Labels) (protocols : List Proto) (K : Coalition) (first second : List (List ℕ)) : Type 0 where

@@ -71,6 +71,6 @@ pub use views_deals::deal_files_belong_to_each_other;
 pub use views_lengths::lengths_tell_ways_alone;
 pub use views_products::{a_product_can_be_excused, worked_product};
 pub use views_programs::{
-    any_order_looks_alike, deals_belong_to_each_other, other_inputs_have_an_excuse,
-    what_may_not_be_read_stays_open, worked_excuse,
+    any_order_looks_alike, deals_belong_to_each_other, inputs_choose_the_branches,
+    other_inputs_have_an_excuse, what_may_not_be_read_stays_open, worked_excuse,
 };

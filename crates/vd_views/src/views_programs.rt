@@ -6,7 +6,7 @@ ghost use Rattle.vd_noninter.specs.NoninterLawsDependence.{AreReached};
 ghost use Rattle.vd_noninter.specs.Reading.{becomes_readable_to, reads_host, reads_result};
 ghost use Rattle.vd_views.specs.Promise.{ExplainsOthers, OfEachProgram};
 ghost use Rattle.vd_base.specs.HostSets.{host};
-ghost use Rattle.vd_views.specs.Explained.{OthersAreExplained, ExplainedBack, AllButOneLook, OneOfTwoLooks};
+ghost use Rattle.vd_views.specs.Explained.{InputsChooseBranches, OthersAreExplained, ExplainedBack, AllButOneLook, OneOfTwoLooks};
 ghost use Rattle.vd_views.specs.PairUp.{DealsPairUp, ThereAreAsMany};
 ghost use Rattle.vd_views.specs.Lengths.{ExcusesAreAsLong, ShowEquallyMany};
 ghost use Rattle.vd_views.specs.ViewsProgramsExample.{WorkedExcuse, WorkedConversion};
@@ -22,6 +22,11 @@ pub fn other_inputs_have_an_excuse()
     ensures back { ExplainedBack }
     ensures all_but_one { AllButOneLook }
     ensures one_of_two { OneOfTwoLooks }
+{}
+
+/// Whatever is dealt, two runs on the same inputs take the same branches: dealt items choose none.
+pub fn inputs_choose_the_branches()
+    ensures { InputsChooseBranches }
 {}
 
 /// The deals of both families of inputs belong to each other one to one, and each keeps the items that are not taken. So of any
