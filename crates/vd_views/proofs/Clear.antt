@@ -57,7 +57,7 @@ module _ (K : Coalition) (t y : Tape) (kin : AreKin K t y) (a : HostId) (x : Reg
   )
 
   pub passed_tells : (hs : List HostId) (next : List ℕ) (w v : Hosts) → HasBoth w v → ((g : ℕ) → IsIn K g → IsHost hs g → c ≡ d) → Telling K t y (each_made (passed a x) hs next).gadgets w v
-  passed_tells [] next w v e same = λ b tidy hides. tt
+  passed_tells [] next w v e same = λ b tidy hides owns. tt
   passed_tells (k ∷ hs) next w v e same =
       at (λ n u z f. passed_tells hs n u z f (λ g m j. same g m (inr j))) (nat_eq a.0 k.0) refl
     where
@@ -125,7 +125,7 @@ not_among (g ∷ hs) k e i = at (not_among hs k) (nat_eq k g.0) refl e i
 
 module _ (K : Coalition) (t y : Tape) (kin : AreKin K t y) (c d : ℕ) where
   told_tells : (x : Places) (k : HostId) → IsNone x k.0 → (next : List ℕ) (w v : Hosts) → Copies w x c → Copies v x d → (IsIn K k.0 → c ≡ d) → Telling K t y (told x k next).gadgets w v
-  told_tells [] k out next w v e f same = λ b tidy hides. tt
+  told_tells [] k out next w v e f same = λ b tidy hides owns. tt
   told_tells (q ∷ x) k out next w v e f same =
       let r : Reg = next_at next k in
       let w1 : Hosts = after_msg q.0.0 (q.1 ∷ []) k.0 (r ∷ []) w in
@@ -155,7 +155,7 @@ module _ (K : Coalition) (t y : Tape) (kin : AreKin K t y) (c d : ℕ) where
       at : (b : Bool) → is_among (hosts_of x) k.0 ≡ b
           → let one : Made Reg = if b then adopted x k next else record { given = first_register (told x k next).given; gadgets = (told x k next).gadgets ++ compared k (told x k next).given; next = (told x k next).next } in
           (Telling K t y one.gadgets w v) × (Copies (after t one.gadgets w) x c × Copies (after y one.gadgets v) x d)
-      at true i = ((λ b tidy hides. tt), (e, f))
+      at true i = ((λ b tidy hides owns. tt), (e, f))
       at false i =
           let out : IsNone x k.0 = not_among (hosts_of x) k.0 i in
           let gs : List Gadget = (told x k next).gadgets in
@@ -167,7 +167,7 @@ module _ (K : Coalition) (t y : Tape) (kin : AreKin K t y) (c d : ℕ) where
 
   -- copies are shown to hosts one after the other
   pub spread_tells : (x : Places) (hs : List HostId) (next : List ℕ) (w v : Hosts) → Copies w x c → Copies v x d → ((g : ℕ) → IsIn K g → IsHost hs g → c ≡ d) → Telling K t y (each_made (shown x) hs next).gadgets w v
-  spread_tells x [] next w v e f same = λ b tidy hides. tt
+  spread_tells x [] next w v e f same = λ b tidy hides owns. tt
   spread_tells x (k ∷ hs) next w v e f same =
       let one = shown_tells x k next w v e f (λ i. same k.0 i (inl refl)) in
       let gs : List Gadget = (shown x k next).gadgets in

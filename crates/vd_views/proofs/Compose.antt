@@ -10,7 +10,7 @@ use Rattle.vd_views.specs.Views.{Coalition}
 use Rattle.vd_views.specs.Hiding.{AlongGadgets}
 use Rattle.vd_views.specs.Plans.{AlongPlan, run_branch, run_turn}
 use Rattle.vd_split.specs.Joint.{acts_then, and_then}
-use Rattle.vd_views.specs.Sides.{after, Each, IsPlain, PlanIsPlain, OwnsInSight}
+use Rattle.vd_views.specs.Sides.{after, Each, IsPlain, PlanIsPlain}
 
 module _ (K : Coalition) (P : Gadget → Hosts → Hosts → Type 0) (G : List Part → Hosts → Hosts → Type 0) (t u : Tape) where
   abbrev pub Along : Plan Gadget → Hosts → Hosts → Type 0
@@ -63,12 +63,6 @@ plain_split Ends b p = (tt, p)
 plain_split (Then g r) b p = let rest = plain_split r b p.1 in ((p.0, rest.0), rest.1)
 plain_split (Branch ps x o r) b p = let rest = plain_split r b p.1.1 in ((p.0, (p.1.0, rest.0)), rest.1)
 plain_split (Loop ps n body r) b p = let rest = plain_split r b p.1 in ((p.0, rest.0), rest.1)
-
-pub sight_split : (K : Coalition) (a b : Plan Gadget) → OwnsInSight K (and_then a b) → OwnsInSight K a × OwnsInSight K b
-sight_split K Ends b p = (tt, p)
-sight_split K (Then g r) b p = sight_split K r b p
-sight_split K (Branch ps x o r) b p = let rest = sight_split K r b p.1.1.1 in ((p.0, (p.1.0, (p.1.1.0, rest.0))), rest.1)
-sight_split K (Loop ps n body r) b p = let rest = sight_split K r b p.1 in ((p.0, rest.0), rest.1)
 
 pub nothing_along : (t u : Tape) (xs : List Gadget) (w v : Hosts) → AlongGadgets (λ g x y. Unit {0}) t u xs w v
 nothing_along t u [] w v = tt

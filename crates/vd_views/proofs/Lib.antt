@@ -11,6 +11,10 @@ mod Joints
 mod Plans
 mod Unique
 mod Back
+mod Moved
+mod MovedExample
+mod Given
+mod Places
 mod Contract
 mod InARow
 mod Counts

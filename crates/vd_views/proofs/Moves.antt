@@ -158,7 +158,7 @@ module _ (K : Coalition) (t y : Tape) (kin : AreKin K t y) (inputs others : ℕ 
         all_shown_tells K t y kin BySums a b apart (shares_of x.at) c d next (second_low a b apart next (shares_of x.at).second.0 summed.second_low) w v summed.word summed_too.word
         (λ i. told_to_both set a b (in_order a b over.ordered) j c d same i)
     from_sums (Commit u z) f j same = no_back_end f
-    from_sums (Add u z) f j same = λ both tidy hides. tt
+    from_sums (Add u z) f j same = λ both tidy hides owns. tt
     from_sums (Xor u z) f j same = telling_quiet K t y kin (to_xor_made u z x.at next).gadgets w v (all_quiet (to_xor_made u z x.at next).gadgets (to_xor_ordinary u z x.at next))
 
   -- exclusive or
@@ -189,7 +189,7 @@ module _ (K : Coalition) (t y : Tape) (kin : AreKin K t y) (inputs others : ℕ 
     from_xors (Add u z) f j same =
         let e = same_two a b u z 210 j in
         subst₂ (λ (m n : ℕ). Telling K t y (to_add_made (host m) (host n) x.at next).gadgets w v) e.0 e.1 converted
-    from_xors (Xor u z) f j same = λ both tidy hides. tt
+    from_xors (Xor u z) f j same = λ both tidy hides owns. tt
 
   pub move_tells : (p q : Proto) → has_back_end p ≡ true → has_back_end q ≡ true → IsOver hosts p → IsTrue (joins p q) → (x : SlotParts) (next : List ℕ) (w v : Hosts) (c d : ℕ) → AreMoved p x next w v c d
       → ((g : ℕ) → IsIn K g → HasClear g q → c ≡ d) → Telling K t y ((suite_calls hosts).move p q x next).acts w v

@@ -1,22 +1,17 @@
 -- How long packets are.
-use Rattle.std.proofs.Common.{◌≡◌, ◌≢◌, ◌⊎◌, inl, inr, ℕ, zero, suc, nat_eq, ◌&&◌, Bool, true, false, if◌then◌else◌, List, [], ◌∷◌, ◌++◌, length, map, refl, sym, ap, ap₂, subst, ◌∙◌}
+use Rattle.std.proofs.Common.{◌≡◌, ◌≢◌, ◌⊎◌, inl, inr, ℕ, zero, suc, nat_eq, ◌&&◌, Bool, true, false, if◌then◌else◌, List, [], ◌∷◌, ◌++◌, length, refl, sym, ap, ap₂, subst, ◌∙◌}
 use Rattle.std.proofs.lemmas.Bool.Decides.{eqb_tells}
-use Rattle.vd_base.specs.declared.protocols.Proto.{Proto}
 use Rattle.vd_base.specs.Holders.{proto_in}
-use Rattle.vd_core.specs.declared.normal.NormalForm.{NormalForm}
-use Rattle.vd_constraints.specs.declared.labels.Labels.{Labels}
 use Rattle.vd_execution.specs.declared.instructions.Reg.{Reg}
 use Rattle.vd_execution.specs.Step.{words_in}
-use Rattle.vd_execution.specs.World.{World, Supply, Tape, IsPrefixOf, AllEnded, followed_by_zeros}
-use Rattle.vd_execution.specs.Joint.{Part, Joint, Done, Do, Msg, If, For, Host, Hosts, after_do, after_msg, is_other, turn_begun, turns, joint, fresh, at_end, IsTidy}
+use Rattle.vd_execution.specs.World.{World, Tape, IsPrefixOf, AllEnded, followed_by_zeros}
+use Rattle.vd_execution.specs.Joint.{Part, Joint, Done, Do, Msg, If, For, Hosts, after_do, after_msg, is_other, turn_begun, turns, joint, fresh, IsTidy}
 use Rattle.vd_execution.specs.Claims.{RunsWell, IsOnTheWay, reached, last_of}
 use Rattle.vd_execution.proofs.Front.{on_the_way}
 use Rattle.vd_backend_laws.specs.Whole.{code_at}
-use Rattle.vd_projection.specs.Assignments.{IsValidFor}
 use Rattle.vd_projection.proofs.Front.{assignments_tell_the_same}
-use Rattle.vd_noninter_protocols.specs.Told.{IsDealt}
 use Rattle.vd_views.specs.Views.{BothTurns}
-use Rattle.vd_views.specs.OnTheWay.{IsSilent, BranchesAreSilent, lengths, so_often, lengths_in, TellsLengths, LengthsFollowCode, LengthsFollowPrograms, GoTheSameWay, AreAsLong, LengthsTellWays}
+use Rattle.vd_views.specs.OnTheWay.{IsSilent, BranchesAreSilent, lengths, so_often, lengths_in, LengthsFollowCode, LengthsFollowPrograms, GoTheSameWay, AreAsLong, LengthsTellWays}
 use Rattle.vd_views.proofs.Alike.{do_told, msg_told, msg_told_other}
 use Rattle.vd_views.proofs.Blocks.{begun_told, turns_keep}
 

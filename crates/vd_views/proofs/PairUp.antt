@@ -13,7 +13,7 @@ use Rattle.vd_execution.specs.Plans.{Plan, joint_of, PlanIsTidy}
 use Rattle.vd_execution.proofs.Front.{plan_sound}
 use Rattle.vd_views.specs.Views.{Coalition, IsIn, IsOut}
 use Rattle.vd_views.specs.Hiding.{IsWithout}
-use Rattle.vd_views.specs.Contract.{with_inputs, Explains, HasExplanation}
+use Rattle.vd_views.specs.Contract.{moved_deal, Explains, HasExplanation}
 use Rattle.vd_views.specs.Excused.{excused}
 use Rattle.vd_views.proofs.WayBack.{IsCrossing, counted}
 use Rattle.vd_views.proofs.Contract.{fresh_sound}
@@ -22,12 +22,12 @@ use Rattle.vd_noninter_protocols.specs.Told.{IsDealt}
 use Rattle.vd_views.specs.Sides.{Each}
 use Rattle.vd_views.specs.Explained.{IsFree, IsCoalition, plan_of, input_words, AgreeFor}
 use Rattle.vd_views.specs.PairUp.{IsDealOf, PairUp, DealsPairUp, EachExplains, AsMany, ThereAreAsMany}
-use Rattle.vd_views.proofs.Theorem.{plan_is, static, dealt_zeros, others_are_explained, explained_back}
+use Rattle.vd_views.proofs.Theorem.{plan_is_tidy, others_are_explained, explained_back}
 
 same_tape : (t z : Tape) → ((g : ℕ) (s : Source) (i : ℕ) → z g s i ≡ t g s i) → z ≡ t
 same_tape t z e = fun_ext (λ g. fun_ext (λ s. fun_ext (λ i. e g s i)))
 
-module _ (p : NormalForm) (l : Labels) (protocols : List Proto) (free : IsFree p l protocols) (K : Coalition) (together : IsCoalition p protocols K) where
+module _ (p : NormalForm) (l : Labels) (protocols : List Proto) (free : IsFree p l protocols) (K : Coalition) (together : IsCoalition p K) where
   abbrev plan : Plan Gadget
   plan = plan_of p protocols
 
@@ -36,46 +36,46 @@ module _ (p : NormalForm) (l : Labels) (protocols : List Proto) (free : IsFree p
 
   -- what the plan is whatever the deals
   fixed_tidy : PlanIsTidy (plan_of p protocols)
-  fixed_tidy = subst PlanIsTidy (sym (plan_is p l protocols free)) (static p l protocols free [] _ dealt_zeros K together.sight).tidy
+  fixed_tidy = plan_is_tidy p l protocols free
 
   module _ (first second : List (List ℕ)) (there : AgreeFor p l protocols K first second) (here : AgreeFor p l protocols K second first) where
     pub explained : (t : Tape) → IsDealOf (input_words first) t → HasExplanation K plan t (input_words second)
-    explained t d = (excused K t plan (with_inputs t (input_words second)) fresh fresh, others_are_explained p l protocols free K together first second t (dealt_of first second here t d) there)
+    explained t d = (excused K t plan (moved_deal K plan t (input_words second)) fresh fresh, others_are_explained p l protocols free K together first second t (dealt_of first second here t d) there)
 
   module _ (first second : List (List ℕ)) (there : AgreeFor p l protocols K first second) (here : AgreeFor p l protocols K second first) where
     pub turned : (t y : Tape) → IsDealOf (input_words first) t → Explains K plan t (input_words second) y → Explains K plan y (input_words first) t
     turned t y d e =
         let again : HasExplanation K plan y (input_words first) = explained second first here there y (record { deal = e.deal; inputs = e.inputs }) in
         subst (λ (z : Tape). Explains K plan y (input_words first) z)
-        (same_tape t again.0 (explained_back p l protocols free K t (input_words first) (input_words second) y again.0 d.deal d.inputs e again.1)) again.1
+        (same_tape t again.0 (explained_back p l protocols free K first t (input_words second) y again.0 d.deal d.inputs e again.1)) again.1
 
     pub only : (t y z : Tape) → IsDealOf (input_words first) t → Explains K plan t (input_words second) y → Explains K plan t (input_words second) z → z ≡ y
-    only t y z d e f = same_tape y z (explained_back p l protocols free K y (input_words second) (input_words first) t z e.deal e.inputs (turned t y d e) f)
+    only t y z d e f = same_tape y z (explained_back p l protocols free K second y (input_words first) t z e.deal e.inputs (turned t y d e) f)
 
     -- of items that cross the two runs take equally many
     crossing_rest : (t y : Tape) → IsDealOf (input_words first) t → Explains K plan t (input_words second) y
-        → (g : ℕ) (s : Source) (i : ℕ) → IsCrossing K s → s ≢ Inputs → (joint t (joint_of plan) fresh g).cursors s ≤ i → y g s i ≡ t g s i
-    crossing_rest t y d e g s i crossing n lt =
+        → (g : ℕ) (s : Source) (i : ℕ) → IsCrossing K s → s ≢ Inputs → s ≢ OwnWords → (joint t (joint_of plan) fresh g).cursors s ≤ i → y g s i ≡ t g s i
+    crossing_rest t y d e g s i crossing n w lt =
         let R : ℕ → Type 0 = λ c. c ≤ i in
-        e.past g s i n
+        e.past g s i n w
         (subst R (counted K (joint t (joint_of plan) fresh) (joint y (joint_of plan) fresh) e.view (plan_sound t d.deal plan fixed_tidy fresh fresh_sound) (plan_sound y e.deal plan fixed_tidy fresh fresh_sound) g s crossing) lt)
 
     each_rest : (t y : Tape) → IsDealOf (input_words first) t → Explains K plan t (input_words second) y
-        → (g : ℕ) (s : Source) (i : ℕ) → IsCrossing K s ⊎ IsWithout K s → s ≢ Inputs → (joint t (joint_of plan) fresh g).cursors s ≤ i → y g s i ≡ t g s i
-    each_rest t y d e g s i (inl crossing) n lt = crossing_rest t y d e g s i crossing n lt
-    each_rest t y d e g s i (inr without) n lt = at (in_or_out K g)
+        → (g : ℕ) (s : Source) (i : ℕ) → IsCrossing K s ⊎ IsWithout K s → s ≢ Inputs → s ≢ OwnWords → (joint t (joint_of plan) fresh g).cursors s ≤ i → y g s i ≡ t g s i
+    each_rest t y d e g s i (inl crossing) n w lt = crossing_rest t y d e g s i crossing n w lt
+    each_rest t y d e g s i (inr without) n w lt = at (in_or_out K g)
       where
         at : IsIn K g ⊎ IsOut K g → y g s i ≡ t g s i
         at (inl m) = ap (λ (f : Source → ℕ → List ℕ). f s i) (e.part g m)
         at (inr o) = e.among g s i o without
 
     rest : (t y : Tape) → IsDealOf (input_words first) t → Explains K plan t (input_words second) y
-        → (g : ℕ) (s : Source) (i : ℕ) → s ≢ Inputs → (joint t (joint_of plan) fresh g).cursors s ≤ i → y g s i ≡ t g s i
-    rest t y d e g Inputs i n lt = absurd (n refl)
-    rest t y d e g OwnWords i n lt = e.own_words g i
-    rest t y d e g (Triples k) i n lt = each_rest t y d e g (Triples k) i (in_or_out K k) n lt
-    rest t y d e g (BitTriples k) i n lt = each_rest t y d e g (BitTriples k) i (in_or_out K k) n lt
-    rest t y d e g (Pairs k) i n lt = each_rest t y d e g (Pairs k) i (in_or_out K k) n lt
+        → (g : ℕ) (s : Source) (i : ℕ) → s ≢ Inputs → s ≢ OwnWords → (joint t (joint_of plan) fresh g).cursors s ≤ i → y g s i ≡ t g s i
+    rest t y d e g Inputs i n w lt = absurd (n refl)
+    rest t y d e g OwnWords i n w lt = absurd (w refl)
+    rest t y d e g (Triples k) i n w lt = each_rest t y d e g (Triples k) i (in_or_out K k) n w lt
+    rest t y d e g (BitTriples k) i n w lt = each_rest t y d e g (BitTriples k) i (in_or_out K k) n w lt
+    rest t y d e g (Pairs k) i n w lt = each_rest t y d e g (Pairs k) i (in_or_out K k) n w lt
 
     pair_up : PairUp K (plan_of p protocols) (input_words first) (input_words second)
     pair_up = record { forth = explained first second there here; turned = turned; only = only; rest = rest }

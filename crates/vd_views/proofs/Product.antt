@@ -14,10 +14,12 @@ use Rattle.vd_backend_sharing.specs.declared.shares.PartRegisters.{PartRegisters
 use Rattle.vd_backend_sharing.specs.PairCalls.{shares_of, product_shares}
 use Rattle.vd_words.specs.Example.{alice}
 use Rattle.vd_views.specs.Hiding.{next_item, opened, GadgetsKnow, IsAnotherDeal}
-use Rattle.vd_views.specs.Contract.{InputWords, with_inputs, CanBeExcused, IsExplained, GoesBack}
-use Rattle.vd_views.specs.Views.{Coalition}
+use Rattle.vd_views.specs.Contract.{InputWords, with_inputs, moved_deal, CanBeExcused, IsExplained, GoesBackTo}
+use Rattle.vd_views.specs.Views.{Coalition, everyone}
+use Rattle.vd_views.specs.Moved.{Moves}
+use Rattle.vd_views.proofs.Places.{all_sight, places_same}
 use Rattle.vd_views.proofs.InARow.{row_tidy, row_smooth, row_chooses, row_knows, know_append}
-use Rattle.vd_views.proofs.Contract.{explained}
+use Rattle.vd_views.proofs.Contract.{explained, none_moves}
 use Rattle.vd_views.proofs.WayBack.{first_again}
 use Rattle.vd_views.specs.Product.{taken_in, first_shared, second_shared, multiplied, shown, multiplication, printed, shared_product, product_plan, input_of, product_of, HaveSameProduct}
 use Rattle.vd_views.proofs.Calls.{with_inputs_taken, with_one_shared, with_both_shared, with_product, whole_tidy, whole_agrees, product_stands}
@@ -42,15 +44,24 @@ turned : (p q : ℕ) → (p + q) % 2 ^ 32 ≡ (q + p) % 2 ^ 32
 turned p q = ap (λ (z : ℕ). z % 2 ^ 32) (add_comm p q)
 
 module _ (K : Coalition) (t : Tape) (second : InputWords) (deal : IsValidDeal t) (others : HaveSameProduct K t second) where
-  module _ (y : Tape) (another : IsAnotherDeal K (with_inputs t second) fresh y) where
+  module _ (y : Tape) (another : IsAnotherDeal K (moved_deal K product_plan t second) fresh y) where
+    -- own words stay where they are, as there is no branch
+    own_stays : (g i : ℕ) → y g OwnWords i ≡ t g OwnWords i
+    own_stays g i =
+        another.own_words g i
+        ∙ ap (λ (m : Moves). t g OwnWords (m.from i))
+        (none_moves K product_plan t (with_inputs t second) g
+        (places_same K everyone (λ h e. refl) g t (with_inputs t second) product_plan (all_sight product_plan (row_tidy shared_product (whole_tidy t deal))) (row_tidy shared_product (whole_tidy t deal)) fresh fresh
+        (row_chooses everyone t (with_inputs t second) shared_product fresh fresh) (λ k. refl)))
+
     -- the own words that are given away are the same
     first_own : next_item t (with_inputs_taken t) 0 OwnWords ≡ next_item y (with_inputs_taken y) 0 OwnWords
     unfolding put
-    first_own = sym (another.own_words 0 0)
+    first_own = sym (own_stays 0 0)
 
     second_own : next_item t (with_one_shared t) 1 OwnWords ≡ next_item y (with_one_shared y) 1 OwnWords
     unfolding put
-    second_own = sym (another.own_words 1 0)
+    second_own = sym (own_stays 1 0)
 
     -- and so is the product
     new_input : (g : ℕ) → input_of y g ≡ second g 0
@@ -113,6 +124,7 @@ module _ (K : Coalition) (t : Tape) (second : InputWords) (deal : IsValidDeal t)
     smooth = row_smooth t shared_product fresh (whole_agrees t deal);
     inputs = others.inputs;
     words = others.words;
+    branches = λ u z _ _ _ _. row_chooses everyone u z shared_product fresh fresh;
     smooth_too = λ y a. row_smooth y shared_product fresh (whole_agrees y a.deal);
     knows = λ y a hides. (row_chooses K t y shared_product fresh fresh, row_knows K t y shared_product fresh fresh (whole_known y a));
   }
@@ -122,6 +134,6 @@ module _ (K : Coalition) (t : Tape) (second : InputWords) (deal : IsValidDeal t)
 
 -- ---- the way back
 
-pub product_goes_back : (K : Coalition) → GoesBack K product_plan
-product_goes_back K t first second y z valid has one two =
-    first_again K product_plan (row_tidy shared_product (whole_tidy t valid)) t first second y z valid has one two
+pub product_goes_back : (K : Coalition) (first : InputWords) → GoesBackTo K product_plan first
+product_goes_back K first t second y z valid has one two =
+    first_again K product_plan (row_tidy shared_product (whole_tidy t valid)) t first second y z (λ u v _ _ _ _. row_chooses everyone u v shared_product fresh fresh) valid has one two

@@ -16,7 +16,7 @@ explains p l released known hears protocols free K together first second t dealt
     let agree_for : AgreeFor p l protocols K first second = record {
       words = agree.words;
       own = agree.own;
-      heard = λ h m. let low = together.declared h m in hears h low low protocols free.chosen.assignment first second (agree.same h m) (agree.declassified h m);
+      heard = λ h m. let low = together h m in hears h low low protocols free.chosen.assignment first second (agree.same h m) (agree.declassified h m);
     } in
     (agree_for, others_are_explained p l protocols free K together first second t dealt agree_for)
 

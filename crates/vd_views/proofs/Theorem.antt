@@ -1,5 +1,5 @@
 -- Other inputs that agree for a coalition are explained to it by another deal.
-use Rattle.std.proofs.Common.{◌≡◌, ℕ, zero, suc, ◌^◌, ◌<◌, ◌≤◌, ◌+◌, ◌-◌, ◌≢◌, ◌⊎◌, nat_eq, ◌||◌, true, false, List, [], ◌∷◌, ◌++◌, inl, inr, length, drop, slice_index, refl, sym, ap, subst, ◌∙◌, arith, lit<}
+use Rattle.std.proofs.Common.{◌≡◌, ℕ, zero, suc, ◌^◌, ◌<◌, ◌≤◌, ◌+◌, ◌-◌, ◌≢◌, ◌⊎◌, nat_eq, ◌||◌, true, false, List, [], ◌∷◌, ◌++◌, inl, inr, length, drop, slice_index, refl, sym, ap, subst, ◌∙◌, arith, lit<, Bool, if◌then◌else◌, subst₂}
 use Rattle.std.specs.List.{concat, list_all}
 use Rattle.std.proofs.lemmas.Bool.{eq-eqb}
 use Rattle.std.proofs.lemmas.Bool.Decides.{eqb_tells}
@@ -16,7 +16,8 @@ use Rattle.vd_constraints.proofs.Front.{well_made_scoped}
 use Rattle.vd_execution.specs.Registers.{nth}
 use Rattle.vd_execution.specs.Step.{Source, Inputs, OwnWords, Triples, BitTriples, Pairs}
 use Rattle.vd_execution.specs.World.{Tape}
-use Rattle.vd_execution.specs.Joint.{Part, TakesPart, fresh, IsSmooth}
+use Rattle.vd_execution.specs.Deals.{IsValidDeal}
+use Rattle.vd_execution.specs.Joint.{Part, TakesPart, fresh, IsSmooth, joint}
 use Rattle.vd_execution.specs.Gadgets.{Gadget}
 use Rattle.vd_execution.specs.Plans.{Plan, joint_of, PlanIsWithin, PlanIsTidy}
 use Rattle.vd_split.specs.Block.{Block, block_of, each}
@@ -36,15 +37,19 @@ use Rattle.vd_views.specs.Views.{Coalition, IsIn, IsOut, alone, everyone}
 use Rattle.vd_views.specs.Plans.{PlanChooses}
 use Rattle.vd_views.specs.Hiding.{IsAnotherDeal}
 use Rattle.vd_views.specs.Hides.{Hides}
-use Rattle.vd_views.specs.Contract.{InputWords, with_inputs, GoesBack, CanBeExcused, IsExplained}
-use Rattle.vd_views.proofs.Contract.{fresh_sound, explained}
+use Rattle.vd_views.specs.Moved.{Moves, stays, moved_by, places, AsFar, OwnAlike}
+use Rattle.vd_views.specs.Excused.{excused}
+use Rattle.vd_views.specs.Contract.{with_inputs, moves_between, moved_deal, HasInputs, ChooseBranches, Explains, CanBeExcused, IsExplained}
+use Rattle.vd_views.proofs.Moved.{moves_well}
+use Rattle.vd_views.proofs.Places.{places_rise, all_sight, places_same}
+use Rattle.vd_views.proofs.Contract.{fresh_sound, own_part, none_moves, with_inputs_valid, explained}
 use Rattle.vd_views.proofs.WayBack.{first_again}
 use Rattle.vd_noninter.specs.Reading.{start}
 use Rattle.vd_noninter_protocols.specs.Hearing.{Heard, heard_step, heard_in_order}
 use Rattle.vd_noninter_protocols.specs.Told.{IsDealt}
 use Rattle.vd_views.specs.Sides.{AreKin, Both, PlanIsPlain, OwnsInSight, OnlyOutside, AreBelow}
 use Rattle.vd_views.proofs.ViewsBackendsPlans.{one_outside}
-use Rattle.vd_views.specs.Explained.{IsFree, IsCoalition, plan_of, input_words, AgreeFor, InputsChooseBranches, OthersAreExplained, ExplainedBack, AllButOneLook, OneOfTwoLooks}
+use Rattle.vd_views.specs.Explained.{IsFree, IsCoalition, plan_of, input_words, AgreeFor, InputsChooseBranches, OthersAreExplained, ExplainedBack, OwnWordsStay, AllButOneLook, OneOfTwoLooks}
 use Rattle.vd_views.proofs.Plain.{plan_plain}
 use Rattle.vd_views.proofs.Steps.{Static, Concluded}
 use Rattle.vd_views.proofs.ViewsProgramsBlocks.{Fitting, follows}
@@ -81,14 +86,6 @@ one_item : (xs : List ℕ) (v : ℕ) → length xs ≡ 1 → nth xs 0 ≡ v → 
 one_item [] v e f = absurd (omega arith)
 one_item (x ∷ []) v e f = ap (λ z. z ∷ []) f
 one_item (x ∷ y ∷ xs) v e f = absurd (omega arith)
-
--- the second inputs are the same for a host with the same inputs
-own_part : (h : ℕ) (t : Tape) (second : InputWords) → ((i : ℕ) → t h Inputs i ≡ second h i ∷ []) → (s : Source) (i : ℕ) → t h s i ≡ with_inputs t second h s i
-own_part h t second same Inputs i = same i
-own_part h t second same OwnWords i = refl
-own_part h t second same (Triples p) i = refl
-own_part h t second same (BitTriples p) i = refl
-own_part h t second same (Pairs p) i = refl
 
 -- ---- a program
 
@@ -155,14 +152,23 @@ module _ (p : NormalForm) (l : Labels) (protocols : List Proto) (free : IsFree p
     plain : PlanIsPlain tree
     plain = plan_plain (length p.hosts) proto free.free b begin
 
-    pub static : (K : Coalition) → OwnsInSight K (plan_of p protocols) → Static K tree
-    static K sight = record { parts = first_ones 0 hosts; sight = subst (OwnsInSight K) plan_is sight; within = within_tree; tidy = tidy; plain = plain }
+    static : Static tree
+    static = record { parts = first_ones 0 hosts; within = within_tree; tidy = tidy; plain = plain }
 
     -- one host alone is outside
     seen_by_others : (K : Coalition) (k : ℕ) → OnlyOutside K hosts k → OwnsInSight K (plan_of p protocols)
     seen_by_others K k only =
         subst (OwnsInSight K) (sym plan_is)
         (one_outside K hosts k only (first_ones 0 hosts) (λ g i. let lt = first_below 0 hosts g i in omega (arith, lt)) tree tidy plain within_tree)
+
+  -- ---- a deal with these inputs
+
+  dealt_from : (inputs : List (List ℕ)) (t : Tape) → IsValidDeal t → HasInputs t (input_words inputs) → IsDealt inputs t
+  dealt_from inputs t valid has = record {
+    words = λ g i. subst (λ n. n < 2 ^ 32) (ap (λ (xs : List ℕ). nth xs 0) (has g i)) (valid.words g Inputs i 0);
+    deal = valid;
+    given = λ g i. ap (λ (xs : List ℕ). nth xs 0) (has g i);
+  }
 
   -- ---- two runs on the same inputs
 
@@ -193,37 +199,40 @@ module _ (p : NormalForm) (l : Labels) (protocols : List Proto) (free : IsFree p
         })
         (tidy inputs t dealt)
 
+  choose_in_tree : (inputs : List (List ℕ)) → ChooseBranches tree (input_words inputs)
+  choose_in_tree inputs t u valid has valid_too has_too = branches_same inputs t u (dealt_from inputs t valid has) (dealt_from inputs u valid_too has_too)
+
   -- ---- two runs
 
-  module _ (K : Coalition) (together : IsCoalition p protocols K) (first second : List (List ℕ)) (t : Tape) (dealt : IsDealt first t) (agree : AgreeFor p l protocols K first second) where
+  module _ (K : Coalition) (together : IsCoalition p K) (first second : List (List ℕ)) (t : Tape) (dealt : IsDealt first t) (agree : AgreeFor p l protocols K first second) where
     own_inputs : (h : ℕ) → IsIn K h → (i : ℕ) → t h Inputs i ≡ input_words second h i ∷ []
     own_inputs h m i = one_item (t h Inputs i) (input_words second h i) (dealt.deal.lengths h Inputs i) (dealt.given h i ∙ agree.own h m i)
 
-    same_part : (h : ℕ) → IsIn K h → with_inputs t (input_words second) h ≡ t h
-    same_part h m = sym (fun_ext (λ s. fun_ext (λ i. own_part h t (input_words second) (own_inputs h m) s i)))
+    same_part : (h : ℕ) → IsIn K h → moved_deal K tree t (input_words second) h ≡ t h
+    same_part h m = sym (own_part K tree t (input_words second) h m (own_inputs h m))
 
-    dealt_by : (y : Tape) → IsAnotherDeal K (with_inputs t (input_words second)) fresh y → IsDealt second y
+    dealt_by : (y : Tape) → IsAnotherDeal K (moved_deal K tree t (input_words second)) fresh y → IsDealt second y
     dealt_by y another = record { words = agree.words; deal = another.deal; given = λ g i. ap (λ (xs : List ℕ). nth xs 0) (another.inputs g i) }
 
     both : Both K fresh fresh
-    both = record { first = fresh_sound; second = fresh_sound; looks = λ h m. record { itself = refl; told = λ g. refl }; own = λ g. refl }
+    both = record { first = fresh_sound; second = fresh_sound; looks = λ h m. record { itself = refl; told = λ g. refl } }
 
     low : (g : ℕ) → IsIn K g → g < 8
-    low g m = let lt = together.declared g m in let le = few first t dealt in omega (arith, lt, le)
+    low g m = let lt = together g m in let le = few first t dealt in omega (arith, lt, le)
 
     wrong : {X : Type 0} → false ≡ true → X
     wrong e = cc
 
     -- ---- another deal with the second inputs, by which what items hide is hidden alike
 
-    module _ (y : Tape) (another : IsAnotherDeal K (with_inputs t (input_words second)) fresh y) (hidden : Hides K t y tree fresh fresh) where
+    module _ (y : Tape) (another : IsAnotherDeal K (moved_deal K tree t (input_words second)) fresh y) (hidden : Hides K t y tree fresh fresh) where
       dealt_too : IsDealt second y
       dealt_too = dealt_by y another
 
       kin : AreKin K t y
-      kin = record { first = dealt.deal; second = another.deal; part = λ h m. sym (another.part h m ∙ same_part h m); own_words = λ g i. sym (another.own_words g i) }
+      kin = record { first = dealt.deal; second = another.deal; part = λ h m. sym (another.part h m ∙ same_part h m) }
 
-      fitting : Fitting K low t y kin (inputs_of first) (inputs_of second) hosts together.declared protocols l (laws first t dealt) (laws second y dealt_too) (can first t dealt).over free.free b nothing_seen 0 (λ g. false)
+      fitting : Fitting K low t y kin (inputs_of first) (inputs_of second) hosts together protocols l (laws first t dealt) (laws second y dealt_too) (can first t dealt).over free.free b nothing_seen 0 (λ g. false)
       fitting = record {
         row = row_of 0 (length p.slots) (slots (block_of p.body)) (sym (ap concat (fold_each slots_step p.body)) ∙ free.chosen.made.in_order);
         seen = ap (λ (s : List Seeing). (seeing_all s nothing_seen).all) (sym (fold_each seeing_step p.body)) ∙ free.chosen.made.made_before;
@@ -242,9 +251,25 @@ module _ (p : NormalForm) (l : Labels) (protocols : List Proto) (free : IsFree p
           (ap (λ (hs : List Heard). heard_in_order hs 0 (start p first)) (sym (fold_each (heard_step protocols (host g) l) p.body)) ∙ agree.heard g m
           ∙ ap (λ (hs : List Heard). heard_in_order hs 0 (start p second)) (fold_each (heard_step protocols (host g) l) p.body))
 
+      -- the own words that are given are the same
+      places_agree : (g : ℕ) → places K g (with_inputs t (input_words second)) tree fresh ≡ places K g y tree fresh
+      places_agree g =
+          places_same K everyone (λ h i. refl) g (with_inputs t (input_words second)) y tree (all_sight tree (tidy first t dealt)) (tidy first t dealt) fresh fresh
+          (choose_in_tree second (with_inputs t (input_words second)) y (with_inputs_valid t (input_words second) dealt.deal agree.words) (λ k i. refl) another.deal (λ k i. another.inputs k i)) (λ k. refl)
+
+      owns : OwnAlike K t y tree fresh fresh
+      owns g o =
+          let js : List ℕ = places K g (with_inputs t (input_words second)) tree fresh in
+          let is : List ℕ = places K g t tree fresh in
+          let same : (j : ℕ) → t g OwnWords ((moved_by is js stays).from j) ≡ y g OwnWords j = λ j.
+          sym (another.own_words g j ∙ ap (λ (x : Bool). t g OwnWords ((if x then stays else moved_by is js stays).from j)) o) in
+          subst₂ (λ (f : ℕ → List ℕ) (z : List ℕ). AsFar (t g OwnWords) f is z) (fun_ext same) (places_agree g)
+          (moves_well.there (t g OwnWords) is js 0 ((joint t (joint_of tree) fresh g).cursors OwnWords) 0 ((joint (with_inputs t (input_words second)) (joint_of tree) fresh g).cursors OwnWords)
+          (places_rise K g t tree fresh) (places_rise K g (with_inputs t (input_words second)) tree fresh))
+
       concluded : Concluded K t y tree fresh fresh (λ g. []) (λ g. [])
       concluded =
-          follows K low t y kin (inputs_of first) (inputs_of second) hosts together.declared protocols l (laws first t dealt) (laws second y dealt_too) (can first t dealt).over free.free b nothing_seen 0 (λ g. false) fitting
+          follows K low t y kin (inputs_of first) (inputs_of second) hosts together protocols l (laws first t dealt) (laws second y dealt_too) (can first t dealt).over free.free b nothing_seen 0 (λ g. false) fitting
           begin fresh fresh (start p first) (start p second) 0 refl (omega arith)
           (record {
             first = tied_at_start (machine t (inputs_of first)) (suite t (inputs_of first) (length p.hosts)) proto (length p.hosts) refl first fresh (starts first t dealt);
@@ -253,7 +278,7 @@ module _ (p : NormalForm) (l : Labels) (protocols : List Proto) (free : IsFree p
             second_turn = λ g lt i. wrong i;
             both = both;
           })
-          (static first t dealt K together.sight) hidden (λ g. []) (λ g. []) words
+          (static first t dealt) hidden owns (λ g. []) (λ g. []) words
 
     condition : CanBeExcused K tree t (input_words second)
     condition = record {
@@ -262,16 +287,13 @@ module _ (p : NormalForm) (l : Labels) (protocols : List Proto) (free : IsFree p
       smooth = smooth first t dealt;
       inputs = own_inputs;
       words = agree.words;
+      branches = choose_in_tree second;
       smooth_too = λ y another. smooth second y (dealt_by y another);
       knows = λ y another hidden. let c = concluded y another hidden in (c.chooses, c.knows);
     }
 
     it_explains : IsExplained K (plan_of p protocols) t (input_words second)
     it_explains = subst (λ (plan : Plan Gadget). IsExplained K plan t (input_words second)) (sym plan_is) (explained K tree t (input_words second) condition)
-
-pub inputs_choose_branches : InputsChooseBranches
-inputs_choose_branches p l protocols free inputs t u dealt dealt_too =
-    subst (λ (plan : Plan Gadget). PlanChooses everyone t u plan fresh fresh) (sym (plan_is p l protocols free)) (branches_same p l protocols free inputs t u dealt dealt_too)
 
 pub others_are_explained : OthersAreExplained
 others_are_explained p l protocols free K together first second t dealt agree = it_explains p l protocols free K together first second t dealt agree
@@ -297,10 +319,8 @@ pub all_but_one_look : AllButOneLook
 all_but_one_look p l protocols free K k only = seen_by_others p l protocols free [] (zero_deal (inputs_of [])) dealt_zeros K k only
 
 pub one_of_two_looks : OneOfTwoLooks
-one_of_two_looks p l protocols free two h low = record {
-  declared = λ g i. subst (λ n. g < n) (sym two) (at g (eqb_tells g h) i);
-  sight = all_but_one_look p l protocols free (alone h) (1 - h) (λ g lt o. other g (subst (λ n. g < n) two lt) o);
-}
+one_of_two_looks p l protocols free two h low =
+    ((λ g i. subst (λ n. g < n) (sym two) (at g (eqb_tells g h) i)), all_but_one_look p l protocols free (alone h) (1 - h) (λ g lt o. other g (subst (λ n. g < n) two lt) o))
   where
     at : (g : ℕ) → ((nat_eq g h ≡ true) × (g ≡ h)) ⊎ ((nat_eq g h ≡ false) × (g ≢ h)) → IsIn (alone h) g → g < 2
     at g (inl e) i = let same : g ≡ h = e.1 in omega (arith, low, same)
@@ -313,9 +333,42 @@ one_of_two_looks p l protocols free two h low = record {
     other : (g : ℕ) → g < 2 → IsOut (alone h) g → g ≡ 1 - h
     other g lt o = let ne : g ≢ h = apart g (eqb_tells g h) o in omega (arith, lt, low, ne)
 
+-- whatever is dealt, runs on the same inputs take the same branches
+pub choose_branches : InputsChooseBranches
+choose_branches p l protocols free inputs = subst (λ (plan : Plan Gadget). ChooseBranches plan (input_words inputs)) (sym (plan_is p l protocols free)) (choose_in_tree p l protocols free inputs)
+
+-- ---- own words that stay
+
+pub own_words_stay : OwnWordsStay
+own_words_stay p l protocols free K sight second t y e g i =
+    e.own_words g i
+    ∙ ap (λ (m : Moves). t g OwnWords (m.from i))
+    (none_moves K (plan_of p protocols) t y g (places_same K K (λ h m. m) g t y (plan_of p protocols) sight (plan_is_tidy p l protocols free) fresh fresh e.chooses (λ k. refl)))
+
+-- so the deal that explains begins with own words as they stand
+pub deal_stays : (p : NormalForm) (l : Labels) (protocols : List Proto) → IsFree p l protocols → (K : Coalition) → IsCoalition p K → OwnsInSight K (plan_of p protocols) → (first second : List (List ℕ)) (t : Tape) → IsDealt first t
+    → AgreeFor p l protocols K first second → moved_deal K (plan_of p protocols) t (input_words second) ≡ with_inputs t (input_words second)
+deal_stays p l protocols free K together sight first second t dealt agree = fun_ext (λ g. fun_ext (λ s. fun_ext (λ i. at g s i)))
+  where
+    same : (g : ℕ) → moves_between K (plan_of p protocols) t (with_inputs t (input_words second)) g ≡ stays
+    same g =
+        let y : Tape = excused K t (plan_of p protocols) (moved_deal K (plan_of p protocols) t (input_words second)) fresh fresh in
+        let e : Explains K (plan_of p protocols) t (input_words second) y = others_are_explained p l protocols free K together first second t dealt agree in
+        let tidy_all : PlanIsTidy (plan_of p protocols) = plan_is_tidy p l protocols free in
+        none_moves K (plan_of p protocols) t (with_inputs t (input_words second)) g
+        (places_same K K (λ h m. m) g t y (plan_of p protocols) sight tidy_all fresh fresh e.chooses (λ k. refl)
+        ∙ places_same K everyone (λ h m. refl) g y (with_inputs t (input_words second)) (plan_of p protocols) (all_sight (plan_of p protocols) tidy_all) tidy_all fresh fresh
+        (choose_branches p l protocols free second y (with_inputs t (input_words second)) e.deal e.inputs (with_inputs_valid t (input_words second) dealt.deal agree.words) (λ k i. refl)) (λ k. refl))
+
+    at : (g : ℕ) (s : Source) (i : ℕ) → moved_deal K (plan_of p protocols) t (input_words second) g s i ≡ with_inputs t (input_words second) g s i
+    at g Inputs i = refl
+    at g OwnWords i = ap (λ (m : Moves). t g OwnWords (m.from i)) (same g)
+    at g (Triples q) i = refl
+    at g (BitTriples q) i = refl
+    at g (Pairs q) i = refl
+
 -- ---- the way back
 
 pub explained_back : ExplainedBack
-explained_back p l protocols free K t first second y z valid has one two =
-    let goes : GoesBack K (tree p l protocols free) = λ u f g v x. first_again K (tree p l protocols free) (tidy p l protocols free [] (zero_deal (inputs_of [])) dealt_zeros) u f g v x in
-    subst (λ (plan : Plan Gadget). GoesBack K plan) (sym (plan_is p l protocols free)) goes t first second y z valid has one two
+explained_back p l protocols free K first t second y z valid has one two =
+    first_again K (plan_of p protocols) (plan_is_tidy p l protocols free) t (input_words first) second y z (choose_branches p l protocols free first) valid has one two

@@ -182,7 +182,7 @@ module _ (a b : HostId) (apart : a.0 ≢ b.0) (next : List ℕ) (x : Places) whe
         at (inr i) (inr o) (inr d) = never_both K b.0 i d
 
     pub to_add_tells : Telling K t y (to_add_made a b x next).gadgets w v
-    to_add_tells both tidy hides =
+    to_add_tells both tidy hides owns =
         let one : Rest t w c = left t w ready c o in
         let more : Rest y v d = left y v ready' d o' in
         let w1 : Hosts = run_acts t (acts_of_gadget (Paired first second)) w in
@@ -197,7 +197,7 @@ module _ (a b : HostId) (apart : a.0 ≢ b.0) (next : List ℕ) (x : Places) whe
               (both_open K t y kin ByXors a b apart (shares_of rest.given) (applied binary.Sub (converted first second w) (pair_word first second t w)) (applied binary.Sub (converted first second v) (pair_word first second y v))
               (register l) (register k) (finishing a b (shares_of rest.given) pair.given.0 k l) (λ e. clash (subst (λ z. (shares_of rest.given).second.0 < z) (sym same_mark) one.low) e) (tt, (tt, (tt, tt)))
               one.reached more.reached one.word more.word (λ i. left_same both hides.0 i))
-              (both_step K t y kin (Paired first second) w v tidy.0 both hides.0 tt) tidy.1 hides.1,
+              (both_step K t y kin (Paired first second) w v tidy.0 both hides.0 tt) tidy.1 hides.1 owns.1,
         )
       where
         clash : {p q : ℕ} → p < q → p ≡ q → ⊥

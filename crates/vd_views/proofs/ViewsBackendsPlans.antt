@@ -255,14 +255,13 @@ plan_owns K t y (Loop qs count body rest) sight tidy w v c e =
         count 0 w v (no_choice (λ p q. Unit {0}) (λ p q. tt) qs (run_turn qs body t) (run_turn qs body y) count 0 w v) e
 
 -- both runs go on side by side after a plan
-pub plan_both : (K : Coalition) (t y : Tape) → AreKin K t y → (plan : Plan Gadget) → PlanIsTidy plan → OwnsInSight K plan → (w v : Hosts) → Both K w v
-    → IsSmooth t (joint_of plan) w → IsSmooth y (joint_of plan) v → PlanHides K t y plan w v → PlanKnows K t y plan w v → PlanChooses K t y plan w v
+pub plan_both : (K : Coalition) (t y : Tape) → AreKin K t y → (plan : Plan Gadget) → PlanIsTidy plan → (w v : Hosts) → Both K w v
+    → IsSmooth t (joint_of plan) w → IsSmooth y (joint_of plan) v → PlanHides K t y plan w v → PlanKnows K t y plan w v
     → Both K (joint t (joint_of plan) w) (joint y (joint_of plan) v)
-plan_both K t y kin plan tidy sight w v b sw sv hides knows chooses = record {
+plan_both K t y kin plan tidy w v b sw sv hides knows = record {
   first = plan_sound t kin.first plan tidy w b.first;
   second = plan_sound y kin.second plan tidy v b.second;
   looks = plan_alike K t y kin plan tidy w v b sw sv hides knows;
-  own = plan_owns K t y plan sight tidy w v chooses b.own;
 }
 
 -- ---- where one host alone is outside

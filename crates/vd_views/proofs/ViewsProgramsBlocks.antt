@@ -44,6 +44,8 @@ use Rattle.vd_views.proofs.Sides.{both_all, telling_quiet, telling_on}
 use Rattle.vd_views.proofs.ViewsBackendsPlans.{idle_hides}
 use Rattle.vd_views.proofs.Ordinary.{all_quiet, keep_ordinary, renew_ordinary, output_ordinary, cells_ordinary, put_ordinary}
 use Rattle.vd_views.specs.Hides.{Hides}
+use Rattle.vd_views.specs.Moved.{OwnAlike}
+use Rattle.vd_views.proofs.Given.{own_behind, own_other, own_first, own_turn, own_idle}
 use Rattle.vd_views.proofs.ViewsProgramsHiding.{idle, hides_behind}
 use Rattle.vd_views.proofs.Compose.{acts_on, acts_tidy, nothing_along}
 use Rattle.vd_views.proofs.Words.{one_off, regroup, RightAgrees, right_off}
@@ -179,7 +181,7 @@ module _ (K : Coalition) (few : (g : ℕ) → IsIn K g → g < 8) (t u : Tape) (
   abbrev pub Follows : Block → Type 0
   Follows b =
       (o : Sight) (k : ℕ) (has : ℕ → Bool) → Fitting b o k has → (e : E) (w v : Hosts) (c d : SlotState) (turn : ℕ) → length e.held ≡ k → turn < 2 ^ 32 → Stands o e w v c d turn has
-      → Static K ((emits b).emit e).tree → Hides K t u ((emits b).emit e).tree w v → (xs ys : ℕ → List ℕ) → ((g : ℕ) → IsIn K g → heard_in_order (heards g b) turn c ++ xs g ≡ heard_in_order (heards g b) turn d ++ ys g)
+      → Static ((emits b).emit e).tree → Hides K t u ((emits b).emit e).tree w v → OwnAlike K t u ((emits b).emit e).tree w v → (xs ys : ℕ → List ℕ) → ((g : ℕ) → IsIn K g → heard_in_order (heards g b) turn c ++ xs g ≡ heard_in_order (heards g b) turn d ++ ys g)
       → Ends' ((emits b).emit e).tree w v xs ys
 
   sum : {i j a b : ℕ} → i ≡ a → j ≡ b → i + j ≡ a + b
@@ -187,14 +189,14 @@ module _ (K : Coalition) (few : (g : ℕ) → IsIn K g → g < 8) (t u : Tape) (
 
   -- a statement, and then the rest
   go_on : (rest : Block) → Follows rest → (o o1 : Sight) (e : E) (one : Emitted (suite_calls hosts) proto) (many k : ℕ) (has : ℕ → Bool) → Fitting rest o1 (k + many) has → (w v : Hosts) (c d c1 d1 : SlotState) (turn : ℕ) → length e.held ≡ k → turn < 2 ^ 32
-      → Stands o e w v c d turn has → After m s proto o o1 e one many w c1 → After n s' proto o o1 e one many v d1 → Static K (and_then one.tree ((emits rest).emit one.state).tree)
-      → Hides K t u (and_then one.tree ((emits rest).emit one.state).tree) w v → (xs ys : ℕ → List ℕ)
-      → (Static K one.tree → Hides K t u one.tree w v → Ends' one.tree w v (λ g. heard_in_order (heards g rest) turn c1 ++ xs g) (λ g. heard_in_order (heards g rest) turn d1 ++ ys g))
+      → Stands o e w v c d turn has → After m s proto o o1 e one many w c1 → After n s' proto o o1 e one many v d1 → Static (and_then one.tree ((emits rest).emit one.state).tree)
+      → Hides K t u (and_then one.tree ((emits rest).emit one.state).tree) w v → OwnAlike K t u (and_then one.tree ((emits rest).emit one.state).tree) w v → (xs ys : ℕ → List ℕ)
+      → (Static one.tree → Hides K t u one.tree w v → OwnAlike K t u one.tree w v → Ends' one.tree w v (λ g. heard_in_order (heards g rest) turn c1 ++ xs g) (λ g. heard_in_order (heards g rest) turn d1 ++ ys g))
       → Ends' (and_then one.tree ((emits rest).emit one.state).tree) w v xs ys
-  go_on rest follows o o1 e one many k has fitting w v c d c1 d1 turn is small st a1 a2 static hides xs ys first =
+  go_on rest follows o o1 e one many k has fitting w v c d c1 d1 turn is small st a1 a2 static hides owns xs ys first =
       and_rest K t u kin inputs others one.tree ((emits rest).emit one.state).tree w v a1.reached a2.reached (λ g. heard_in_order (heards g rest) turn c1 ++ xs g) (λ g. heard_in_order (heards g rest) turn d1 ++ ys g) xs ys
-      static st.both a1.runs a1.goes a2.runs a2.goes hides first
-      (λ later both more agree.
+      static st.both a1.runs a1.goes a2.runs a2.goes hides owns first
+      (λ later both more given_more agree.
       follows o1 (k + many) has fitting one.state a1.reached a2.reached c1 d1 turn (ap length a1.held ∙ length-append e.held a1.more ∙ sum is a1.many) small
       (record {
         first = a1.tied;
@@ -202,7 +204,7 @@ module _ (K : Coalition) (few : (g : ℕ) → IsIn K g → g < 8) (t u : Tape) (
         second = a2.tied;
         second_turn = turns_past n s' proto has turn o o1 e one many v d d1 st.second a2 st.second_turn;
         both = both;
-      }) later more xs ys agree)
+      }) later more given_more xs ys agree)
 
   -- ---- branches
 
@@ -285,7 +287,7 @@ module _ (K : Coalition) (few : (g : ℕ) → IsIn K g → g < 8) (t u : Tape) (
     module _ (w1 v1 : Hosts) (begins : (Ties m s proto o start w1 c × TurnsIn m s proto has o start w1 turn) × (Ties m s proto o middle w1 c × TurnsIn m s proto has o middle w1 turn × (length middle.held ≡ k + length (slots tb))))
         (begins' : (Ties n s' proto o start v1 d × TurnsIn n s' proto has o start v1 turn) × (Ties n s' proto o middle v1 d × TurnsIn n s' proto has o middle v1 turn × (length middle.held ≡ k + length (slots tb))))
         (placed : map (λ q. q.0) guard.given ≡ map (λ g. g.0) ks) (has_guard : HasGuards guard.next w1 (word_at c x) guard.given) (has_guard' : HasGuards guard.next v1 (word_at d x) guard.given)
-        (both1 : Both K w1 v1) (static : Static K (Branch guard.given first_tree other_tree Ends)) (hides : Hides K t u (Branch guard.given first_tree other_tree Ends) w1 v1) (xs ys : ℕ → List ℕ)
+        (both1 : Both K w1 v1) (static : Static (Branch guard.given first_tree other_tree Ends)) (hides : Hides K t u (Branch guard.given first_tree other_tree Ends) w1 v1) (owns : OwnAlike K t u (Branch guard.given first_tree other_tree Ends) w1 v1) (xs ys : ℕ → List ℕ)
         (words : (g : ℕ) → IsIn K g → heard_in_order (if nat_eq (word_at c x) 0 then heards g eb else heards g tb) turn c ++ xs g ≡ heard_in_order (if nat_eq (word_at d x) 0 then heards g eb else heards g tb) turn d ++ ys g) where
       -- a host of the coalition takes part: both runs take the same block
       takes : Concerns guard.given K → Ends' (Branch guard.given first_tree other_tree Ends) w1 v1 xs ys
@@ -303,7 +305,7 @@ module _ (K : Coalition) (few : (g : ℕ) → IsIn K g → g < 8) (t u : Tape) (
           at true m goes alike words =
               let inside = f2 o (k + length (slots tb)) has fit2 middle w1 v1 c d turn begins.1.2 small
               (record { first = begins.1.0; first_turn = begins.1.1; second = begins'.1.0; second_turn = begins'.1.1; both = both1 })
-              (static_other K guard.given first_tree other_tree Ends static) ((hides.0 m alike).0 goes) xs ys words in
+              (static_other guard.given first_tree other_tree Ends static) ((hides.0 m alike).0 goes) (own_other K t u guard.given first_tree other_tree w1 v1 m goes (sym alike ∙ goes) owns) xs ys words in
               record {
                 knows = ((λ i. (tt, ((λ f. inside.knows), (λ f. opposite (is_other guard.given w1) goes f)))), tt);
                 chooses = ((λ i. (alike, ((λ f. inside.chooses), (λ f. opposite (is_other guard.given w1) goes f)))), tt);
@@ -312,7 +314,7 @@ module _ (K : Coalition) (few : (g : ℕ) → IsIn K g → g < 8) (t u : Tape) (
           at false m goes alike words =
               let inside = f1 o k has fit1 start w1 v1 c d turn is small
               (record { first = begins.0.0; first_turn = begins.0.1; second = begins'.0.0; second_turn = begins'.0.1; both = both1 })
-              (static_first K guard.given first_tree other_tree Ends static) ((hides.0 m alike).1 goes) xs ys words in
+              (static_first guard.given first_tree other_tree Ends static) ((hides.0 m alike).1 goes) (own_first K t u guard.given first_tree other_tree w1 v1 m goes (sym alike ∙ goes) owns) xs ys words in
               record {
                 knows = ((λ i. (tt, ((λ f. opposite (is_other guard.given w1) f goes), (λ f. inside.knows)))), tt);
                 chooses = ((λ i. (alike, ((λ f. opposite (is_other guard.given w1) f goes), (λ f. inside.chooses)))), tt);
@@ -344,12 +346,12 @@ module _ (K : Coalition) (few : (g : ℕ) → IsIn K g → g < 8) (t u : Tape) (
           at (inl m) = takes m
           at (inr out) = absent out
 
-    branch_ends : Static K whole → Hides K t u whole w v → (xs ys : ℕ → List ℕ)
+    branch_ends : Static whole → Hides K t u whole w v → OwnAlike K t u whole w v → (xs ys : ℕ → List ℕ)
         → ((g : ℕ) → IsIn K g →
         (word_if (is_part protocols (host g) x (heards g tb) (heards g eb) && comes_alone protocols (host g) x) (word_at c x) ++ heard_in_order (if nat_eq (word_at c x) 0 then heards g eb else heards g tb) turn c) ++ xs g
         ≡ (word_if (is_part protocols (host g) x (heards g tb) (heards g eb) && comes_alone protocols (host g) x) (word_at d x) ++ heard_in_order (if nat_eq (word_at d x) 0 then heards g eb else heards g tb) turn d) ++ ys g)
         → Ends' whole w v xs ys
-    branch_ends static hides xs ys words =
+    branch_ends static hides owns xs ys words =
         let part_of : ℕ → Bool = λ g. is_part protocols (host g) x (heards g tb) (heards g eb) && comes_alone protocols (host g) x in
         let c_words : ℕ → List ℕ = λ g. heard_in_order (if nat_eq (word_at c x) 0 then heards g eb else heards g tb) turn c in
         let d_words : ℕ → List ℕ = λ g. heard_in_order (if nat_eq (word_at d x) 0 then heards g eb else heards g tb) turn d in
@@ -357,8 +359,9 @@ module _ (K : Coalition) (few : (g : ℕ) → IsIn K g → g < 8) (t u : Tape) (
         one_off (part_of g) (word_at c x) (word_at d x) (c_words g ++ xs g) (d_words g ++ ys g) (regroup (word_if (part_of g) (word_at c x)) (c_words g) (word_if (part_of g) (word_at d x)) (d_words g) (xs g) (ys g) (words g i)) in
         let inner : Plan Gadget = Branch guard.given first_tree other_tree Ends in
         let hs = hides_behind K t u guard.acts inner w v hides in
+        let os = own_behind K t u guard.acts inner w v owns in
         let tidy = (acts_tidy guard.acts inner static.tidy).0 in
-        let told : GadgetsKnow K t u guard.acts w v = guard_tells (λ g i. (off g i).0) st.both tidy hs.0 in
+        let told : GadgetsKnow K t u guard.acts w v = guard_tells (λ g i. (off g i).0) st.both tidy hs.0 os.0 in
         let e1 : after t guard.acts w ≡ given.between.reached = same_run t inputs guard.acts w ∙ given.between.leads.runs in
         let e2 : after u guard.acts v ≡ given'.between.reached = same_run u others guard.acts v ∙ given'.between.leads.runs in
         let both1 : Both K given.between.reached given'.between.reached = subst₂ (λ (p q : Hosts). Both K p q) e1 e2 (both_all K t u kin guard.acts w v tidy st.both hs.0 told) in
@@ -366,8 +369,8 @@ module _ (K : Coalition) (few : (g : ℕ) → IsIn K g → g < 8) (t u : Tape) (
         (turns_at m s proto tb) (turns_at m s proto eb) comes1 comes2 x sees_x reaches (both_idle m s proto laws over tb eb) e w c turn has is fit1.needs fit2.needs small st.first st.first_turn in
         let begins' = loops.begins_at n s' proto laws' over o (sees tb o).after (sees eb o).after (emits tb) (emits eb) (each stmt_effect tb) (each stmt_effect eb) (length (slots tb)) (length (slots eb)) k
         (turns_at n s' proto tb) (turns_at n s' proto eb) comes1' comes2' x sees_x reaches' (both_idle n s' proto laws' over tb eb) e v d turn has is fit1.needs_too fit2.needs_too small st.second st.second_turn in
-        let ends = inside given.between.reached given'.between.reached begins begins' given.there.placed given.there.words given'.there.words both1 (static_behind K guard.acts inner static)
-        (subst₂ (λ (p q : Hosts). Hides K t u inner p q) e1 e2 hs.1) xs ys (λ g i. (off g i).1) in
+        let ends = inside given.between.reached given'.between.reached begins begins' given.there.placed given.there.words given'.there.words both1 (static_behind guard.acts inner static)
+        (subst₂ (λ (p q : Hosts). Hides K t u inner p q) e1 e2 hs.1) (subst₂ (λ (p q : Hosts). OwnAlike K t u inner p q) e1 e2 os.1) xs ys (λ g i. (off g i).1) in
         record {
           knows = acts_on K (GadgetKnows K t u) NoGuard t u guard.acts inner w v told (subst₂ (λ (p q : Hosts). PlanKnows K t u inner p q) (sym e1) (sym e2) ends.knows);
           chooses = acts_on K (λ g p q. Unit {0}) (λ ps p q. is_other ps p ≡ is_other ps q) t u guard.acts inner w v (nothing_along t u guard.acts w v)
@@ -419,7 +422,7 @@ module _ (K : Coalition) (few : (g : ℕ) → IsIn K g → g < 8) (t u : Tape) (
     loop_second count small = loops.loop_after n s' proto laws' over o (sees body o).after (emits body) (effect_of body) (length (slots body)) k (turns_at n s' proto body) comes_body' (turns_act n s' proto laws' over body) e v d is tied' count small
 
     -- where a turn begins
-    begins : (i : ℕ) → i < 2 ^ 32 → Both K (at1 i) (at2 i) → Static K tree → (apart : Apart ps) → Stands o inner (begun1 i) (begun2 i) (clear1 i) (clear2 i) i (emits body).acts_at
+    begins : (i : ℕ) → i < 2 ^ 32 → Both K (at1 i) (at2 i) → Static tree → (apart : Apart ps) → Stands o inner (begun1 i) (begun2 i) (clear1 i) (clear2 i) i (emits body).acts_at
     begins i small both static apart =
         let u1 = loops.all_turns m s proto laws over o (sees body o).after (emits body) (effect_of body) (length (slots body)) k (turns_at m s proto body) comes_body (turns_act m s proto laws over body) e w c is tied i (omega arith) in
         let u2 = loops.all_turns n s' proto laws' over o (sees body o).after (emits body) (effect_of body) (length (slots body)) k (turns_at n s' proto body) comes_body' (turns_act n s' proto laws' over body) e v d is tied' i (omega arith) in
@@ -432,7 +435,6 @@ module _ (K : Coalition) (few : (g : ℕ) → IsIn K g → g < 8) (t u : Tape) (
             first = laws.begun_sound (at1 i) ps i small both.first;
             second = laws'.begun_sound (at2 i) ps i small both.second;
             looks = λ g j. subst₂ (λ (p q : Hosts). LooksAlike g p q) (sym (begun_is t inputs ps apart i (at1 i))) (sym (begun_is u others ps apart i (at2 i))) (begun_alike g ps i (at1 i) (at2 i) (both.looks g j));
-            own = both.own;
           };
         }
 
@@ -442,7 +444,8 @@ module _ (K : Coalition) (few : (g : ℕ) → IsIn K g → g < 8) (t u : Tape) (
       chooses : (j : ℕ) → j < i → PlanChooses K t u tree (begun1 j) (begun2 j)
       both : Both K (at1 i) (at2 i)
 
-    module _ (static : Static K tree) (apart : Apart ps) (count : ℕ) (few_turns : count ≤ 2 ^ 32) (hidden : (i : ℕ) → i < count → Hides K t u tree (begun1 i) (begun2 i)) where
+    module _ (static : Static tree) (apart : Apart ps) (count : ℕ) (few_turns : count ≤ 2 ^ 32) (hidden : (i : ℕ) → i < count → Hides K t u tree (begun1 i) (begun2 i))
+        (owned : (i : ℕ) → i < count → ((j : ℕ) → j < i → PlanChooses K t u tree (begun1 j) (begun2 j)) → OwnAlike K t u tree (begun1 i) (begun2 i)) where
       turned : (i : ℕ) → i ≤ count → (xs ys : ℕ → List ℕ) → ((g : ℕ) → IsIn K g → heard_in_turns i (heards g body) c ++ xs g ≡ heard_in_turns i (heards g body) d ++ ys g) → Turned i × ((g : ℕ) → IsIn K g → xs g ≡ ys g)
       turned zero le xs ys words = (record { knows = λ j lt. absurd (never j lt); chooses = λ j lt. absurd (never j lt); both = both0 }, words)
         where
@@ -458,7 +461,7 @@ module _ (K : Coalition) (few : (g : ℕ) → IsIn K g → g < 8) (t u : Tape) (
           let st = begins i small before.0.both static apart in
           let same_c : (g : ℕ) → c_words g ≡ heard_in_order (heards g body) i (clear1 i) = λ g. ap (λ (fs : List Effect). heard_in_order (heards g body) i (turns i (in_order fs) c)) (runs_each protocols (host g) l body) in
           let same_d : (g : ℕ) → d_words g ≡ heard_in_order (heards g body) i (clear2 i) = λ g. ap (λ (fs : List Effect). heard_in_order (heards g body) i (turns i (in_order fs) d)) (runs_each protocols (host g) l body) in
-          let one = f1 o k (emits body).acts_at fit inner (begun1 i) (begun2 i) (clear1 i) (clear2 i) i is small st static (hidden i lt) xs ys
+          let one = f1 o k (emits body).acts_at fit inner (begun1 i) (begun2 i) (clear1 i) (clear2 i) i is small st static (hidden i lt) (owned i lt before.0.chooses) xs ys
           (λ g m. ap (λ (z : List ℕ). z ++ xs g) (sym (same_c g)) ∙ before.1 g m ∙ ap (λ (z : List ℕ). z ++ ys g) (same_d g)) in
           let a1 = comes_body inner (begun1 i) (clear1 i) i (emits body).acts_at is fit.needs small st.first st.first_turn in
           let a2 = comes_body' inner (begun2 i) (clear2 i) i (emits body).acts_at is fit.needs_too small st.second st.second_turn in (
@@ -477,17 +480,20 @@ module _ (K : Coalition) (few : (g : ℕ) → IsIn K g → g < 8) (t u : Tape) (
           at_last j i less (yes e) P before here = subst P (sym e) here
           at_last j i less (no d) P before here = before j (lower j i less d)
 
-    loop_ends : (count : ℕ) → count ≤ 2 ^ 32 → Static K (Loop ps count tree Ends) → Hides K t u (Loop ps count tree Ends) w v → (xs ys : ℕ → List ℕ)
+    loop_ends : (count : ℕ) → count ≤ 2 ^ 32 → Static (Loop ps count tree Ends) → Hides K t u (Loop ps count tree Ends) w v → OwnAlike K t u (Loop ps count tree Ends) w v → (xs ys : ℕ → List ℕ)
         → ((g : ℕ) → IsIn K g → heard_in_turns count (heards g body) c ++ xs g ≡ heard_in_turns count (heards g body) d ++ ys g) → Ends' (Loop ps count tree Ends) w v xs ys
-    loop_ends count few_turns static hides xs ys words =
+    loop_ends count few_turns static hides owns xs ys words =
         let apart = static.tidy.0.0 in
         let tidy = static.tidy.1.1.0 in
         let P : Hosts → Hosts → Type 0 = λ p q. Hides K t u tree p q in
         let hidden : (i : ℕ) → i < count → Hides K t u tree (begun1 i) (begun2 i) = λ i lt.
         subst₂ P (sym (begun_at t inputs ps apart tree tidy i w)) (sym (begun_at u others ps apart tree tidy i v)) (hidden_at (concerns_or_not ps K) i lt) in
-        let all = turned (static_body K ps count tree Ends static) apart count few_turns hidden count (omega arith) xs ys words in
         let here1 = begun_at t inputs ps apart tree tidy in
         let here2 = begun_at u others ps apart tree tidy in
+        let owned : (i : ℕ) → i < count → ((j : ℕ) → j < i → PlanChooses K t u tree (begun1 j) (begun2 j)) → OwnAlike K t u tree (begun1 i) (begun2 i) = λ i lt chooses.
+        subst₂ (λ (p q : Hosts). OwnAlike K t u tree p q) (sym (here1 i w)) (sym (here2 i v))
+        (owned_at (concerns_or_not ps K) i lt (λ j less. subst₂ (λ (p q : Hosts). PlanChooses K t u tree p q) (here1 j w) (here2 j v) (chooses j less))) in
+        let all = turned (static_body ps count tree Ends static) apart count few_turns hidden owned count (omega arith) xs ys words in
         record {
           knows = (
             (λ q. both_turns (λ i p z. PlanKnows K t u tree (turn_begun ps i p) (turn_begun ps i z)) (run_turn ps tree t) (run_turn ps tree u) count w v
@@ -510,14 +516,20 @@ module _ (K : Coalition) (few : (g : ℕ) → IsIn K g → g < 8) (t u : Tape) (
             let z : Hosts = turn_begun ps i (code_turns (run_turn ps tree u) i 0 v) in
             idle K t u ps tree static.tidy.0.1 out x z (idle_hides K ps out t u tree static.tidy.0.1 x z)
 
+        owned_at : Concerns ps K ⊎ (Concerns ps K → ⊥) → (i : ℕ) → i < count
+            → ((j : ℕ) → j < i → PlanChooses K t u tree (turn_begun ps j (code_turns (run_turn ps tree t) j 0 w)) (turn_begun ps j (code_turns (run_turn ps tree u) j 0 v)))
+            → OwnAlike K t u tree (turn_begun ps i (code_turns (run_turn ps tree t) i 0 w)) (turn_begun ps i (code_turns (run_turn ps tree u) i 0 v))
+        owned_at (inl q) i lt chooses = own_turn K t u ps count tree w v q owns i lt chooses
+        owned_at (inr out) i lt chooses = own_idle K t u ps tree static.tidy.0.1 out (turn_begun ps i (code_turns (run_turn ps tree t) i 0 w)) (turn_begun ps i (code_turns (run_turn ps tree u) i 0 v))
+
   -- ---- all statements
 
   array_below : (right : Right) → right_below (length protocols) right ≡ true → (a i : SlotId) → right ≡ Get a i → a.0 < length protocols
   array_below right low a i e = below (length protocols) a (and_left (is_below (length protocols) a) (is_below (length protocols) i) (subst (λ (r : Right). right_below (length protocols) r ≡ true) e low))
 
   pub follows : (b : Block) → Follows b
-  follows End o k has fit e w v c d turn is small st static hides xs ys words = record { knows = tt; chooses = tt; rest = words }
-  follows (Let x right rest) o k has fit e w v c d turn is small st static hides xs ys words =
+  follows End o k has fit e w v c d turn is small st static hides owns xs ys words = record { knows = tt; chooses = tt; rest = words }
+  follows (Let x right rest) o k has fit e w v c d turn is small st static hides owns xs ys words =
       let here = and_left (is_below (length protocols) x && right_below (length protocols) right) (low_block rest) fit.low in
       let sees_right = and_left _ _ fit.seen in
       let made = right_made (suite_calls hosts) proto (proto x.0) right e in
@@ -539,12 +551,12 @@ module _ (K : Coalition) (few : (g : ℕ) → IsIn K g → g < 8) (t u : Tape) (
         needs = λ g p. fit.needs g (turn_later m s proto laws over x right rest g p);
         needs_too = λ g p. fit.needs_too g (turn_later n s' proto laws' over x right rest g p);
       })
-      w v c d c1 d1 turn is small st a1 a2 static hides xs ys
-      (λ alone some.
-      acts_concluded K t u kin inputs others made.acts w v (λ g. heard_in_order (heards g rest) turn c1 ++ xs g) (λ g. heard_in_order (heards g rest) turn d1 ++ ys g) alone st.both some
+      w v c d c1 d1 turn is small st a1 a2 static hides owns xs ys
+      (λ alone some mine.
+      acts_concluded K t u kin inputs others made.acts w v (λ g. heard_in_order (heards g rest) turn c1 ++ xs g) (λ g. heard_in_order (heards g rest) turn d1 ++ ys g) alone st.both some mine
       (right_tells K few t u kin inputs others hosts protocols laws laws' over free o e w v c d st.first st.second x right (below (length protocols) x (and_left (is_below (length protocols) x) (right_below (length protocols) right) here)) sees_right fit.placed.0
       (array_below right (and_right (is_below (length protocols) x) (right_below (length protocols) right) here)) (λ g i. (off g i).0)) (λ g i. (off g i).1))
-  follows (NewVar a y rest) o k has fit e w v c d turn is small st static hides xs ys words =
+  follows (NewVar a y rest) o k has fit e w v c d turn is small st static hides owns xs ys words =
       let here = and_left (is_below (length protocols) a && is_below (length protocols) y) (low_block rest) fit.low in
       let sees_y = and_left _ _ fit.seen in
       let moved = (suite_calls hosts).move (proto y.0) (proto a.0) (part m s proto e.held y.0) e.next in
@@ -567,13 +579,13 @@ module _ (K : Coalition) (few : (g : ℕ) → IsIn K g → g < 8) (t u : Tape) (
         needs = fit.needs;
         needs_too = fit.needs_too;
       })
-      w v c d c1 d1 turn is small st a1 a2 static hides xs ys
-      (λ alone some.
-      acts_concluded K t u kin inputs others (moved.acts ++ kept.acts) w v (λ g. heard_in_order (heards g rest) turn c1 ++ xs g) (λ g. heard_in_order (heards g rest) turn d1 ++ ys g) alone st.both some
+      w v c d c1 d1 turn is small st a1 a2 static hides owns xs ys
+      (λ alone some mine.
+      acts_concluded K t u kin inputs others (moved.acts ++ kept.acts) w v (λ g. heard_in_order (heards g rest) turn c1 ++ xs g) (λ g. heard_in_order (heards g rest) turn d1 ++ ys g) alone st.both some mine
       (telling_on K t u kin moved.acts kept.acts w v (after t moved.acts w) (after u moved.acts v) refl refl
       (word_tells K few t u kin inputs others hosts protocols laws laws' over free o e w v c d st.first st.second y a (below (length protocols) a (and_left (is_below (length protocols) a) (is_below (length protocols) y) here)) sees_y fit.placed.1 (λ g i. (off g i).0))
       (telling_quiet K t u kin kept.acts (after t moved.acts w) (after u moved.acts v) (all_quiet kept.acts (keep_ordinary (proto a.0) moved.given.at moved.next)))) (λ g i. (off g i).1))
-  follows (NewArray a size rest) o k has fit e w v c d turn is small st static hides xs ys words =
+  follows (NewArray a size rest) o k has fit e w v c d turn is small st static hides owns xs ys words =
       let made = (suite_calls hosts).cells (proto a.0) size e.next in
       let c1 = with_array a (replicate size 0) c in
       let d1 = with_array a (replicate size 0) d in
@@ -590,11 +602,11 @@ module _ (K : Coalition) (few : (g : ℕ) → IsIn K g → g < 8) (t u : Tape) (
         needs = fit.needs;
         needs_too = fit.needs_too;
       })
-      w v c d c1 d1 turn is small st a1 a2 static hides xs ys
-      (λ alone some.
-      acts_concluded K t u kin inputs others made.acts w v (λ g. heard_in_order (heards g rest) turn c1 ++ xs g) (λ g. heard_in_order (heards g rest) turn d1 ++ ys g) alone st.both some
+      w v c d c1 d1 turn is small st a1 a2 static hides owns xs ys
+      (λ alone some mine.
+      acts_concluded K t u kin inputs others made.acts w v (λ g. heard_in_order (heards g rest) turn c1 ++ xs g) (λ g. heard_in_order (heards g rest) turn d1 ++ ys g) alone st.both some mine
       (telling_quiet K t u kin made.acts w v (all_quiet made.acts (cells_ordinary (proto a.0) size e.next))) words)
-  follows (Store a y rest) o k has fit e w v c d turn is small st static hides xs ys words =
+  follows (Store a y rest) o k has fit e w v c d turn is small st static hides owns xs ys words =
       let here = and_left (is_below (length protocols) a && is_below (length protocols) y) (low_block rest) fit.low in
       let seen_here = and_left _ _ fit.seen in
       let moved = (suite_calls hosts).move (proto y.0) (proto a.0) (part m s proto e.held y.0) e.next in
@@ -617,13 +629,13 @@ module _ (K : Coalition) (few : (g : ℕ) → IsIn K g → g < 8) (t u : Tape) (
         needs = fit.needs;
         needs_too = fit.needs_too;
       })
-      w v c d c1 d1 turn is small st a1 a2 static hides xs ys
-      (λ alone some.
-      acts_concluded K t u kin inputs others (moved.acts ++ acts) w v (λ g. heard_in_order (heards g rest) turn c1 ++ xs g) (λ g. heard_in_order (heards g rest) turn d1 ++ ys g) alone st.both some
+      w v c d c1 d1 turn is small st a1 a2 static hides owns xs ys
+      (λ alone some mine.
+      acts_concluded K t u kin inputs others (moved.acts ++ acts) w v (λ g. heard_in_order (heards g rest) turn c1 ++ xs g) (λ g. heard_in_order (heards g rest) turn d1 ++ ys g) alone st.both some mine
       (telling_on K t u kin moved.acts acts w v (after t moved.acts w) (after u moved.acts v) refl refl
       (word_tells K few t u kin inputs others hosts protocols laws laws' over free o e w v c d st.first st.second y a (below (length protocols) a (and_left (is_below (length protocols) a) (is_below (length protocols) y) here)) (and_right _ _ seen_here) fit.placed.1 (λ g i. (off g i).0))
       (telling_quiet K t u kin acts (after t moved.acts w) (after u moved.acts v) (all_quiet acts (renew_ordinary (proto a.0) (part m s proto e.held a.0).at moved.given.at)))) (λ g i. (off g i).1))
-  follows (Put a i y rest) o k has fit e w v c d turn is small st static hides xs ys words =
+  follows (Put a i y rest) o k has fit e w v c d turn is small st static hides owns xs ys words =
       let here = and_left _ _ fit.low in
       let below_a = below (length protocols) a (and_left _ _ (and_left _ _ here)) in
       let seen_here = and_left _ _ fit.seen in
@@ -663,15 +675,15 @@ module _ (K : Coalition) (few : (g : ℕ) → IsIn K g → g < 8) (t u : Tape) (
         needs = fit.needs;
         needs_too = fit.needs_too;
       })
-      w v c d c1 d1 turn is small st a1 a2 static hides xs ys
-      (λ alone some.
-      acts_concluded K t u kin inputs others ((index.acts ++ moved.acts) ++ acts) w v (λ g. rc g ++ xs g) (λ g. rd g ++ ys g) alone st.both some
+      w v c d c1 d1 turn is small st a1 a2 static hides owns xs ys
+      (λ alone some mine.
+      acts_concluded K t u kin inputs others ((index.acts ++ moved.acts) ++ acts) w v (λ g. rc g ++ xs g) (λ g. rd g ++ ys g) alone st.both some mine
       (telling_on K t u kin (index.acts ++ moved.acts) acts w v (after t (index.acts ++ moved.acts) w) (after u (index.acts ++ moved.acts) v) refl refl
       (telling_on K t u kin index.acts moved.acts w v b1.reached b2.reached (same_run t inputs index.acts w ∙ b1.leads.runs) (same_run u others index.acts v ∙ b2.leads.runs)
       (index_tells K few t u kin inputs others hosts protocols laws laws' over free o e w v c d st.first st.second a i below_a sees_i fit.placed.2 (λ g m. (first g m).0))
       (word_tells K few t u kin inputs others hosts protocols laws laws' over free o (record { next = index.next; held = e.held; loop = e.loop }) b1.reached b2.reached c d t1 t2 y a below_a sees_y fit.placed.1 (λ g m. (off g m).0)))
       (telling_quiet K t u kin acts (after t (index.acts ++ moved.acts) w) (after u (index.acts ++ moved.acts) v) (all_quiet acts (put_ordinary (proto a.0) (part m s proto e.held a.0) index.given moved.given.at)))) (λ g i. (off g i).1))
-  follows (Output y g offset rest) o k has fit e w v c d turn is small st static hides xs ys words =
+  follows (Output y g offset rest) o k has fit e w v c d turn is small st static hides owns xs ys words =
       let sees_y = and_left _ _ fit.seen in
       let moved = (suite_calls hosts).move (proto y.0) (Local g) (part m s proto e.held y.0) e.next in
       let acts = (suite_calls hosts).output g moved.given in
@@ -694,16 +706,16 @@ module _ (K : Coalition) (few : (g : ℕ) → IsIn K g → g < 8) (t u : Tape) (
         needs = fit.needs;
         needs_too = fit.needs_too;
       })
-      w v c d c1 d1 turn is small st a1 a2 static hides xs ys
-      (λ alone some.
-      acts_concluded K t u kin inputs others (moved.acts ++ acts) w v (λ g. heard_in_order (heards g rest) turn c1 ++ xs g) (λ g. heard_in_order (heards g rest) turn d1 ++ ys g) alone st.both some
+      w v c d c1 d1 turn is small st a1 a2 static hides owns xs ys
+      (λ alone some mine.
+      acts_concluded K t u kin inputs others (moved.acts ++ acts) w v (λ g. heard_in_order (heards g rest) turn c1 ++ xs g) (λ g. heard_in_order (heards g rest) turn d1 ++ ys g) alone st.both some mine
       (telling_on K t u kin moved.acts acts w v (after t moved.acts w) (after u moved.acts v) refl refl
       (moved_tells K few t u kin inputs others hosts protocols laws laws' over free o e.next e.held w v c d st.first st.second y sees_y (Local g) refl fit.placed.0
       (λ f i same own.
       same_alone K few t u kin inputs others hosts protocols laws laws' over free f i y (part m s proto e.held y.0) w v (word_at c y) (word_at d y) same (st.first.stands Binding y.0 sees_y) (st.second.stands Binding y.0 sees_y)
       (when_both (same_host (host f) g) (comes_alone protocols (host f) y) (eq-eqb f g.0 own) (off f i).0)))
       (telling_quiet K t u kin acts (after t moved.acts w) (after u moved.acts v) (all_quiet acts (output_ordinary g moved.given.at)))) (λ g i. (off g i).1))
-  follows (If x tb eb offset rest) o k has fit e w v c d turn is small st static hides xs ys words =
+  follows (If x tb eb offset rest) o k has fit e w v c d turn is small st static hides owns xs ys words =
       let seen_here = and_left _ _ fit.seen in
       let row1 = row_front k (slots tb ++ slots eb) (slots rest) fit.row in
       let row2 = row_back k (slots tb ++ slots eb) (slots rest) fit.row in
@@ -756,10 +768,10 @@ module _ (K : Coalition) (few : (g : ℕ) → IsIn K g → g < 8) (t u : Tape) (
         needs = λ g p. fit.needs g (or_right _ _ p);
         needs_too = λ g p. fit.needs_too g (or_right _ _ p);
       })
-      w v c d c1 d1 turn is small st a1 a2 static hides xs ys
-      (λ alone some.
-      branch_ends tb eb (follows tb) (follows eb) x o k has fit1 fit2 sees_x fit.placed.0 fit.placed_too.0 e w v c d turn is small st alone some (λ f. heard_in_order (heards f rest) turn c1 ++ xs f) (λ f. heard_in_order (heards f rest) turn d1 ++ ys f) agree)
-  follows (For count body rest) o k has fit e w v c d turn is small st static hides xs ys words =
+      w v c d c1 d1 turn is small st a1 a2 static hides owns xs ys
+      (λ alone some mine.
+      branch_ends tb eb (follows tb) (follows eb) x o k has fit1 fit2 sees_x fit.placed.0 fit.placed_too.0 e w v c d turn is small st alone some mine (λ f. heard_in_order (heards f rest) turn c1 ++ xs f) (λ f. heard_in_order (heards f rest) turn d1 ++ ys f) agree)
+  follows (For count body rest) o k has fit e w v c d turn is small st static hides owns xs ys words =
       let row1 = row_front k (slots body) (slots rest) fit.row in
       let row2 = row_back k (slots body) (slots rest) fit.row in
       let fit1 : Fitting body o k (emits body).acts_at = record {
@@ -794,6 +806,6 @@ module _ (K : Coalition) (few : (g : ℕ) → IsIn K g → g < 8) (t u : Tape) (
         needs = fit.needs;
         needs_too = fit.needs_too;
       })
-      w v c d c1 d1 turn is small st a1 a2 static hides xs ys
-      (λ alone some.
-      loop_ends body (follows body) o k fit1 e w v c d is st.first st.second st.both count fit.fits.0 alone some (λ f. heard_in_order (heards f rest) turn c1 ++ xs f) (λ f. heard_in_order (heards f rest) turn d1 ++ ys f) agree)
+      w v c d c1 d1 turn is small st a1 a2 static hides owns xs ys
+      (λ alone some mine.
+      loop_ends body (follows body) o k fit1 e w v c d is st.first st.second st.both count fit.fits.0 alone some mine (λ f. heard_in_order (heards f rest) turn c1 ++ xs f) (λ f. heard_in_order (heards f rest) turn d1 ++ ys f) agree)

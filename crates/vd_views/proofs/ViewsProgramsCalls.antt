@@ -160,7 +160,7 @@ module _ (K : Coalition) (low : (g : ℕ) → IsIn K g → g < 8) (t u : Tape) (
   pub moved_tells : (o : Sight) (next : List ℕ) (held : List Parts) (w v : Hosts) (c d : SlotState) → Tied m s proto o next held w c → Tied n s' proto o next held v d
       → (y : SlotId) → Sees o Binding y.0 → (q : Proto) → has_back_end q ≡ true → s.joins (proto y.0) q ≡ true → ((g : ℕ) → IsIn K g → w g ≡ v g → HasClear g q → word_at c y ≡ word_at d y)
       → Tells ((suite_calls hosts).move (proto y.0) q (part m s proto held y.0) next).acts w v
-  moved_tells o next held w v c d t1 t2 y sees q f joins same both tidy hides =
+  moved_tells o next held w v c d t1 t2 y sees q f joins same both tidy hides owns =
       move_tells K t u kin inputs others hosts (proto y.0) q (free y.0) f (over y.0) joins (part m s proto held y.0) next w v (word_at c y) (word_at d y)
       (record {
         ready = t1.ready;
@@ -168,12 +168,12 @@ module _ (K : Coalition) (low : (g : ℕ) → IsIn K g → g < 8) (t u : Tape) (
         first = operand_of m s proto laws over o next held w c t1 y.0 sees;
         second = operand_of n s' proto laws' over o next held v d t2 y.0 sees;
       })
-      (λ g m. same g m (both.looks g m).itself) both tidy hides
+      (λ g m. same g m (both.looks g m).itself) both tidy hides owns
 
   -- a word that is moved to each of some hosts
   each_told : (p : Proto) → has_back_end p ≡ true → IsOver hosts p → (x : Parts) (a b : ℕ) (ks : List HostId) → Each (λ k. (k.0 < hosts) × (s.joins p (Local k) ≡ true)) ks → (next : List ℕ) (w v : Hosts)
       → Ready m s next w → Ready n s' next v → Operand m s next w p x a → Operand n s' next v p x b → ((g : ℕ) → IsIn K g → IsHost ks g → a ≡ b) → Tells (delivered (suite_calls hosts) proto p x ks next).acts w v
-  each_told p f ov x a b [] joins next w v r1 r2 o1 o2 same = λ both tidy hides. tt
+  each_told p f ov x a b [] joins next w v r1 r2 o1 o2 same = λ both tidy hides owns. tt
   each_told p f ov x a b (k ∷ ks) joins next w v r1 r2 o1 o2 same =
       let one = (suite_calls hosts).move p (Local k) x next in
       let g1 = laws.move_law p (Local k) ov (laws.local_is_declared k joins.0.0) joins.0.1 x a next w r1 o1 in
@@ -187,7 +187,7 @@ module _ (K : Coalition) (low : (g : ℕ) → IsIn K g → g < 8) (t u : Tape) (
 
   pub delivered_tells : (p : Proto) → has_back_end p ≡ true → IsOver hosts p → (x : Parts) (a b : ℕ) (ks : List HostId) → Each (λ k. (k.0 < hosts) × (s.joins p (Local k) ≡ true)) ks → (next : List ℕ) (w v : Hosts)
       → Ready m s next w → Ready n s' next v → Operand m s next w p x a → Operand n s' next v p x b → ((g : ℕ) → IsIn K g → w g ≡ v g → IsHost ks g → a ≡ b) → Tells (delivered (suite_calls hosts) proto p x ks next).acts w v
-  delivered_tells p f ov x a b ks joins next w v r1 r2 o1 o2 same both tidy hides = each_told p f ov x a b ks joins next w v r1 r2 o1 o2 (λ g m. same g m (both.looks g m).itself) both tidy hides
+  delivered_tells p f ov x a b ks joins next w v r1 r2 o1 o2 same both tidy hides owns = each_told p f ov x a b ks joins next w v r1 r2 o1 o2 (λ g m. same g m (both.looks g m).itself) both tidy hides owns
 
   -- operands, from left to right
   operands_tell : (x : SlotId) → x.0 < length protocols → (e : Emitting (suite_calls hosts) proto) (f g : SlotId → ℕ) (source source' : ℕ → ℕ → Type 0) (ys : List SlotId) (next : List ℕ) (w v : Hosts)
@@ -195,7 +195,7 @@ module _ (K : Coalition) (low : (g : ℕ) → IsIn K g → g < 8) (t u : Tape) (
       → Each (λ y. Movable m s laws proto next w source (proto x.0) (proto y.0) (parts_at (suite_calls hosts) proto e y) (f y)) ys
       → Each (λ y. Movable n s' laws' proto next v source' (proto x.0) (proto y.0) (parts_at (suite_calls hosts) proto e y) (g y)) ys
       → ((k : ℕ) → IsIn K k → EachOf (λ y. comes protocols (host k) y x ≡ true → f y ≡ g y) ys) → Tells (all_moved (suite_calls hosts) proto (proto x.0) e ys next).acts w v
-  operands_tell x below e f g source source' [] next w v r1 r2 all1 all2 agrees = λ both tidy hides. tt
+  operands_tell x below e f g source source' [] next w v r1 r2 all1 all2 agrees = λ both tidy hides owns. tt
   operands_tell x below e f g source source' (y ∷ ys) next w v r1 r2 all1 all2 agrees =
       let o1 = all1.0 in
       let o2 = all2.0 in
@@ -206,9 +206,9 @@ module _ (K : Coalition) (low : (g : ℕ) → IsIn K g → g < 8) (t u : Tape) (
       let b1 : Between m s next w one.acts one.next = between_of m s next (s.Names from) one w (proto x.0) (Word (f y)) g1 in
       let b2 : Between n s' next v one.acts one.next = between_of n s' next (s'.Names from) one v (proto x.0) (Word (g y)) g2 in
       telling_on K t u kin one.acts (all_moved (suite_calls hosts) proto (proto x.0) e ys one.next).acts w v g1.reached g2.reached (same_run t inputs one.acts w ∙ g1.leads.runs) (same_run u others one.acts v ∙ g2.leads.runs)
-      (λ both tidy hides.
+      (λ both tidy hides owns.
       move_tells K t u kin inputs others hosts (proto y.0) (proto x.0) (free y.0) (free x.0) (over y.0) o1.joins from next w v (f y) (g y) (record { ready = r1; ready_too = r2; first = o1.operand; second = o2.operand })
-      (λ k i. same_word k i y x below from w v (f y) (g y) (both.looks k i).itself o1.operand.stands o2.operand.stands (agrees k i).0) both tidy hides)
+      (λ k i. same_word k i y x below from w v (f y) (g y) (both.looks k i).itself o1.operand.stands o2.operand.stands (agrees k i).0) both tidy hides owns)
       (operands_tell x below e f g source source' ys one.next g1.reached g2.reached (ready_past m s next w one.acts one.next r1 b1) (ready_past n s' next v one.acts one.next r2 b2)
       (all_past m s laws proto next w one.acts one.next source (proto x.0) e f b1 ys all1.1) (all_past n s' laws' proto next v one.acts one.next source' (proto x.0) e g b2 ys all2.1) (λ k i. (agrees k i).1))
 
@@ -262,7 +262,7 @@ module _ (K : Coalition) (low : (g : ℕ) → IsIn K g → g < 8) (t u : Tape) (
         let more = (suite_calls hosts).move (proto a.0) (proto x.0) kept.given kept.next in
         telling_on K t u kin kept.acts more.acts w v g1.reached g2.reached (same_run t inputs kept.acts w ∙ g1.leads.runs) (same_run u others kept.acts v ∙ g2.leads.runs)
         (telling_quiet K t u kin kept.acts w v (all_quiet kept.acts (keep_ordinary (proto a.0) (held a).at e.next)))
-        (λ both tidy hides.
+        (λ both tidy hides owns.
         move_tells K t u kin inputs others hosts (proto a.0) (proto x.0) (free a.0) (free x.0) (over a.0) placed.1 kept.given kept.next g1.reached g2.reached (word_at c a) (word_at d a)
         (record {
           ready = ready_past m s e.next w kept.acts kept.next t1.ready b1;
@@ -270,7 +270,7 @@ module _ (K : Coalition) (low : (g : ℕ) → IsIn K g → g < 8) (t u : Tape) (
           first = record { below = g1.fresh.below; stands = g1.stands };
           second = record { below = g2.fresh.below; stands = g2.stands };
         })
-        (λ g i. same_word g i a x below kept.given g1.reached g2.reached (word_at c a) (word_at d a) (both.looks g i).itself g1.stands g2.stands (agrees g i)) both tidy hides)
+        (λ g i. same_word g i a x below kept.given g1.reached g2.reached (word_at c a) (word_at d a) (both.looks g i).itself g1.stands g2.stands (agrees g i)) both tidy hides owns)
     right_tells x (Get a i) below sees placed known agrees =
         let sees_a : Sees o Array a.0 = and_left _ _ sees in
         let sees_i : Sees o Binding i.0 = and_right _ _ sees in
@@ -286,7 +286,7 @@ module _ (K : Coalition) (low : (g : ℕ) → IsIn K g → g < 8) (t u : Tape) (
         telling_on K t u kin (index.acts ++ got.acts) more.acts w v g1.reached g2.reached (same_run t inputs (index.acts ++ got.acts) w ∙ g1.leads.runs) (same_run u others (index.acts ++ got.acts) v ∙ g2.leads.runs)
         (telling_on K t u kin index.acts got.acts w v (after t index.acts w) (after u index.acts v) refl refl (index_tells a i (known a i refl) sees_i placed.2 (λ k j. (agrees k j).0))
         (telling_quiet K t u kin got.acts (after t index.acts w) (after u index.acts v) (all_quiet got.acts (get_ordinary (proto a.0) (held a) index.given index.next))))
-        (λ both tidy hides.
+        (λ both tidy hides owns.
         move_tells K t u kin inputs others hosts (proto a.0) (proto x.0) (free a.0) (free x.0) (over a.0) placed.1 got.given got.next g1.reached g2.reached p q
         (record {
           ready = ready_past m s e.next w (index.acts ++ got.acts) got.next t1.ready b1;
@@ -294,4 +294,4 @@ module _ (K : Coalition) (low : (g : ℕ) → IsIn K g → g < 8) (t u : Tape) (
           first = record { below = g1.fresh.below; stands = g1.stands };
           second = record { below = g2.fresh.below; stands = g2.stands };
         })
-        (λ k j. same_word k j a x below got.given g1.reached g2.reached p q (both.looks k j).itself g1.stands g2.stands (agrees k j).1) both tidy hides)
+        (λ k j. same_word k j a x below got.given g1.reached g2.reached p q (both.looks k j).itself g1.stands g2.stands (agrees k j).1) both tidy hides owns)

@@ -32,11 +32,15 @@ pub record IsLongEnough (K : Coalition) (n : Lengths) (plan : Plan Gadget) (t : 
   pub ends : (g : ℕ) (s : Source) (i : ℕ) → s ≢ Inputs → n g s ≤ i → t g s i ≡ zeros_of s
   pub takes : (g : ℕ) (s : Source) → IsSeen K g s → (joint t (joint_of plan) fresh g).cursors s ≤ n g s
 
--- what explains another run is as long, and the run takes no item past its end
+-- runs on these inputs take no own word past these lengths
+abbrev pub OwnFits : Lengths → Plan Gadget → InputWords → Type 0
+OwnFits n plan given = (t : Tape) → IsDealOf given t → (g : ℕ) → (joint t (joint_of plan) fresh g).cursors OwnWords ≤ n g OwnWords
+
+-- what explains another run is as long, and the run takes no item past its end, if its own words reach
 abbrev pub ExcusesAreAsLong : Type 0
 ExcusesAreAsLong =
-    (p : NormalForm) (l : Labels) (protocols : List Proto) → IsFree p l protocols → (K : Coalition) → IsCoalition p protocols K → (second : InputWords) (t y : Tape) → IsValidDeal t → Explains K (plan_of p protocols) t second y
-    → (n : Lengths) → IsLongEnough K n (plan_of p protocols) t → IsLongEnough K n (plan_of p protocols) y
+    (p : NormalForm) (l : Labels) (protocols : List Proto) → IsFree p l protocols → (K : Coalition) → IsCoalition p K → (second : InputWords) (t y : Tape) → IsValidDeal t → Explains K (plan_of p protocols) t second y
+    → (n : Lengths) → IsLongEnough K n (plan_of p protocols) t → ((g : ℕ) → (joint y (joint_of (plan_of p protocols)) fresh g).cursors OwnWords ≤ n g OwnWords) → IsLongEnough K n (plan_of p protocols) y
 
 -- ---- so there are equally many of given lengths that show the coalition the same
 
@@ -61,9 +65,10 @@ pub record AreAll {X : Type 0} (P : X → Type 0) (ts : List X) : Type 0 where
   pub different : AreDifferent ts
   pub all : (t : X) → P t → IsAmong t ts
 
--- where these are all deals of the first inputs that show it what it sees, there are as many of the second
+-- where these are all deals of the first inputs that show it what it sees, there are as many of the second. Own words are to reach for
+-- the runs on both
 abbrev pub ShowEquallyMany : Type 0
 ShowEquallyMany =
-    (p : NormalForm) (l : Labels) (protocols : List Proto) → IsFree p l protocols → (K : Coalition) → IsCoalition p protocols K → (first second : List (List ℕ)) → AgreeFor p l protocols K first second → AgreeFor p l protocols K second first
-    → (n : Lengths) (t : Tape) (ts : List Tape) → AreAll (Shows K (plan_of p protocols) n t (input_words first)) ts
+    (p : NormalForm) (l : Labels) (protocols : List Proto) → IsFree p l protocols → (K : Coalition) → IsCoalition p K → (first second : List (List ℕ)) → AgreeFor p l protocols K first second → AgreeFor p l protocols K second first
+    → (n : Lengths) → OwnFits n (plan_of p protocols) (input_words first) → OwnFits n (plan_of p protocols) (input_words second) → (t : Tape) (ts : List Tape) → AreAll (Shows K (plan_of p protocols) n t (input_words first)) ts
     → (ys : List Tape) × (length ys ≡ length ts) × AreAll (Shows K (plan_of p protocols) n t (input_words second)) ys

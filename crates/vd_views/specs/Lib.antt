@@ -5,6 +5,8 @@ pub mod Items
 pub mod Hides
 pub mod Excused
 pub mod Back
+pub mod Moved
+pub mod MovedExample
 pub mod Contract
 pub mod Claims
 pub mod Product

@@ -3,7 +3,7 @@ use Rattle.std.specs.Prelude.{◌≡◌, ◌≢◌, ℕ, ◌≤◌, List, [], �
 use Rattle.vd_base.specs.declared.protocols.Proto.{Proto}
 use Rattle.vd_core.specs.declared.normal.NormalForm.{NormalForm}
 use Rattle.vd_constraints.specs.declared.labels.Labels.{Labels}
-use Rattle.vd_execution.specs.Step.{Source, Inputs}
+use Rattle.vd_execution.specs.Step.{Source, Inputs, OwnWords}
 use Rattle.vd_execution.specs.World.{Tape}
 use Rattle.vd_execution.specs.Deals.{IsValidDeal}
 use Rattle.vd_execution.specs.Joint.{fresh, joint}
@@ -24,13 +24,13 @@ pub record PairUp (K : Coalition) (plan : Plan Gadget) (first second : InputWord
   pub forth : (t : Tape) → IsDealOf first t → HasExplanation K plan t second
   pub turned : (t y : Tape) → IsDealOf first t → Explains K plan t second y → Explains K plan y first t
   pub only : (t y z : Tape) → IsDealOf first t → Explains K plan t second y → Explains K plan t second z → z ≡ y
-  -- the items that the first run does not take stay
+  -- the items that the first run does not take stay; own words are only moved
   pub rest : (t y : Tape) → IsDealOf first t → Explains K plan t second y
-      → (g : ℕ) (s : Source) (i : ℕ) → s ≢ Inputs → (joint t (joint_of plan) fresh g).cursors s ≤ i → y g s i ≡ t g s i
+      → (g : ℕ) (s : Source) (i : ℕ) → s ≢ Inputs → s ≢ OwnWords → (joint t (joint_of plan) fresh g).cursors s ≤ i → y g s i ≡ t g s i
 
 abbrev pub DealsPairUp : Type 0
 DealsPairUp =
-    (p : NormalForm) (l : Labels) (protocols : List Proto) → IsFree p l protocols → (K : Coalition) → IsCoalition p protocols K → (first second : List (List ℕ)) → AgreeFor p l protocols K first second → AgreeFor p l protocols K second first
+    (p : NormalForm) (l : Labels) (protocols : List Proto) → IsFree p l protocols → (K : Coalition) → IsCoalition p K → (first second : List (List ℕ)) → AgreeFor p l protocols K first second → AgreeFor p l protocols K second first
     → PairUp K (plan_of p protocols) (input_words first) (input_words second)
 
 -- ---- so there are equally many
@@ -52,5 +52,5 @@ AsMany K plan first second =
 
 abbrev pub ThereAreAsMany : Type 0
 ThereAreAsMany =
-    (p : NormalForm) (l : Labels) (protocols : List Proto) → IsFree p l protocols → (K : Coalition) → IsCoalition p protocols K → (first second : List (List ℕ)) → AgreeFor p l protocols K first second → AgreeFor p l protocols K second first
+    (p : NormalForm) (l : Labels) (protocols : List Proto) → IsFree p l protocols → (K : Coalition) → IsCoalition p K → (first second : List (List ℕ)) → AgreeFor p l protocols K first second → AgreeFor p l protocols K second first
     → AsMany K (plan_of p protocols) (input_words first) (input_words second)

@@ -25,7 +25,7 @@ pub record AgreeOn (p : NormalForm) (K : Coalition) (released : ℕ → ℕ → 
 -- whatever valid assignment without commitments is taken, and whatever was dealt: the second inputs are explained to the coalition
 abbrev pub ExplainsOthers : NormalForm → Labels → (ℕ → ℕ → ℕ → Bool) → (ℕ → ℕ → Bool) → Type 0
 ExplainsOthers p l released known =
-    (protocols : List Proto) → IsFree p l protocols → (K : Coalition) → IsCoalition p protocols K → (first second : List (List ℕ)) (t : Tape) → IsDealt first t → AgreeOn p K released known first second
+    (protocols : List Proto) → IsFree p l protocols → (K : Coalition) → IsCoalition p K → (first second : List (List ℕ)) (t : Tape) → IsDealt first t → AgreeOn p K released known first second
     → AgreeFor p l protocols K first second × IsExplained K (plan_of p protocols) t (input_words second)
 
 -- of each program whose labels keep the rules

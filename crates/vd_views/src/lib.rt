@@ -14,6 +14,8 @@ ghost use Rattle.vd_views.specs.Views.{Coalition, IsIn};
 ghost use Rattle.vd_views.specs.Back.{AreAlternatives};
 ghost use Rattle.vd_views.specs.Contract.{InputWords, CanBeExcused, IsExplained, GoesBack};
 ghost use Rattle.vd_views.specs.Items.{item_for};
+ghost use Rattle.vd_views.specs.Moved.{MovesWell};
+ghost use Rattle.vd_views.specs.MovedExample.{WorkedBranch};
 
 /// A host that has the same inputs and dealt items in two runs, and is told the same words, is the same in both.
 pub fn what_a_host_sees()
@@ -31,7 +33,8 @@ pub fn gadgets_hide()
 
 /// For every coalition and second run there is one valid deal with the same parts for its hosts, the same own words and inputs, and
 /// the same items among hosts outside, by which what items hide is hidden alike. It is computed gadget by gadget, along both
-/// runs. Where the coalition then reads the same guards and is told the same openly, it sees the same as in the first run.
+/// runs. Where the coalition then reads the same guards and is told the same openly, it sees the same as in the first run. From
+/// the start own words are moved first, to where the second run gives them to the coalition.
 pub fn every_run_has_an_excuse()
     ensures gadgets { (K : Coalition) (t u : Tape) (gs : List Gadget) (w v : Hosts) → GadgetsAreTidy gs → AreSound t u w v →
         HasExcuse K t u gs w v }
@@ -39,6 +42,17 @@ pub fn every_run_has_an_excuse()
         HasViewExcuse K t u plan w v }
     ensures from_the_start { (K : Coalition) (plan : Plan Gadget) (t : Tape) (second : InputWords) → CanBeExcused K plan t second →
         IsExplained K plan t second }
+{}
+
+/// Own words can be moved so that those at some places stand at others, in the same order. Moved back, each stands where it stood.
+pub fn own_words_can_be_moved()
+    ensures { MovesWell }
+{}
+
+/// Alice shares a word with bob in a branch that carol does not see, and one with carol after it: carol gets another own word where
+/// the branch is not taken. So the second deal has alice's first two own words exchanged.
+pub fn worked_branch()
+    ensures { WorkedBranch }
 {}
 
 /// Exchanged, the second deal explains the first run by the second just so, and the items that do so are the only ones. So what

@@ -7,7 +7,8 @@ ghost use Rattle.vd_execution.specs.Gadgets.{Gadget};
 ghost use Rattle.vd_views.specs.Views.{Coalition};
 ghost use Rattle.vd_views.specs.Sides.{AreKin, Each, IsQuiet, Telling};
 
-/// Where nothing is told openly but own words, two runs that go side by side tell a coalition the same.
+/// Where nothing is told openly but own words, and those of hosts outside are the same, two runs that go side by side tell a
+/// coalition the same.
 pub fn quiet_gadgets_tell_the_same()
     ensures { (K : Coalition) (t y : Tape) (gs : List Gadget) (w v : Hosts) → AreKin K t y → Each IsQuiet gs → Telling K t y gs w v }
 {}

@@ -3,7 +3,7 @@
 ghost use Rattle.vd_execution.specs.World.{Tape};
 ghost use Rattle.vd_execution.specs.Deals.{IsValidDeal};
 ghost use Rattle.vd_views.specs.Views.{Coalition};
-ghost use Rattle.vd_views.specs.Contract.{InputWords, CanBeExcused, IsExplained, GoesBack};
+ghost use Rattle.vd_views.specs.Contract.{InputWords, CanBeExcused, IsExplained, GoesBackTo};
 ghost use Rattle.vd_views.specs.Product.{product_plan, HaveSameProduct};
 ghost use Rattle.vd_views.specs.Example.{WorkedProduct};
 
@@ -15,7 +15,7 @@ pub fn a_product_can_be_excused()
         CanBeExcused K product_plan t second }
     ensures explained { (K : Coalition) (t : Tape) (second : InputWords) → IsValidDeal t → HaveSameProduct K t second →
         IsExplained K product_plan t second }
-    ensures back { (K : Coalition) → GoesBack K product_plan }
+    ensures back { (K : Coalition) (first : InputWords) → GoesBackTo K product_plan first }
 {}
 
 /// The product of 7 and 6, and of 2147483655 and 6: a second deal, in which the first host's triple is another, explains these

@@ -6,20 +6,22 @@ ghost use Rattle.vd_noninter.specs.NoninterLawsDependence.{AreReached};
 ghost use Rattle.vd_noninter.specs.Reading.{becomes_readable_to, reads_host, reads_result};
 ghost use Rattle.vd_views.specs.Promise.{ExplainsOthers, OfEachProgram};
 ghost use Rattle.vd_base.specs.HostSets.{host};
-ghost use Rattle.vd_views.specs.Explained.{InputsChooseBranches, OthersAreExplained, ExplainedBack, AllButOneLook, OneOfTwoLooks};
+ghost use Rattle.vd_views.specs.Explained.{InputsChooseBranches, OthersAreExplained, ExplainedBack, OwnWordsStay, AllButOneLook, OneOfTwoLooks};
 ghost use Rattle.vd_views.specs.PairUp.{DealsPairUp, ThereAreAsMany};
 ghost use Rattle.vd_views.specs.Lengths.{ExcusesAreAsLong, ShowEquallyMany};
 ghost use Rattle.vd_views.specs.ViewsProgramsExample.{WorkedExcuse, WorkedConversion};
 ghost use Rattle.vd_views.specs.AnyOrder.{SeesFrontsInAnyOrder};
 
-/// Of a program at a valid assignment of protocols without commitments, and hosts of it in whose sight own words are taken: other
-/// inputs may agree on their own inputs, and on each word that comes to one of them in clear. Then there is one other valid deal, with
-/// the same parts for all of them and the same own words, under which they see of the other inputs what they saw of the first. It
-/// is computed gadget by gadget, along both runs. Explained back, the first deal comes again. Where one host alone is outside,
-/// own words are taken in sight, and so it is where one of two looks.
+/// Of a program at a valid assignment of protocols without commitments, and hosts of it that look together: other inputs may agree on
+/// their own inputs, and on each word that comes to one of them in clear. Then there is one other valid deal, with the same parts
+/// for all of them and the same own words, under which they see of the other inputs what they saw of the first. Own words of hosts
+/// outside that are given to them stand where the second run gives some. It is computed gadget by gadget, along both runs.
+/// Explained back, the first deal comes again. Where own words are taken in sight of those that look, none moves. So it is where
+/// one host alone is outside, and where one of two looks.
 pub fn other_inputs_have_an_excuse()
     ensures explained { OthersAreExplained }
     ensures back { ExplainedBack }
+    ensures stay { OwnWordsStay }
     ensures all_but_one { AllButOneLook }
     ensures one_of_two { OneOfTwoLooks }
 {}
@@ -31,9 +33,9 @@ pub fn inputs_choose_the_branches()
 
 /// The deals of both families of inputs belong to each other one to one, and each keeps the items that are not taken. So of any
 /// number of different deals by which a coalition sees something of the first inputs, there are equally many by which it sees the
-/// same of the second. A deal that is long enough is explained by one of the same lengths; and of all that are of given
-/// lengths, and by which the coalition sees something, there are equally many of both: what it sees tells it nothing of the
-/// inputs.
+/// same of the second. A deal that is long enough is explained by one of the same lengths, if own words reach for both runs; and of
+/// all that are of given lengths, and by which the coalition sees something, there are equally many of both: what it sees tells it
+/// nothing of the inputs.
 pub fn deals_belong_to_each_other()
     ensures pair_up { DealsPairUp }
     ensures as_many { ThereAreAsMany }

@@ -8,4 +8,4 @@ pub returns-clause-explained : goal.returns-clause-explained
 returns-clause-explained c = λ K t second deal others. product_explained K t second deal others
 
 pub returns-clause-back : goal.returns-clause-back
-returns-clause-back c = λ K t first second y z valid has one two. product_goes_back K t first second y z valid has one two
+returns-clause-back c = λ K first t second y z valid has one two. product_goes_back K first t second y z valid has one two

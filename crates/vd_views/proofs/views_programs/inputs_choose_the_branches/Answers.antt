@@ -1,5 +1,5 @@
-use Rattle.vd_views.proofs.Theorem.{inputs_choose_branches}
+use Rattle.vd_views.proofs.Theorem.{choose_branches}
 use Rattle.vd_views.proofs.views_programs.inputs_choose_the_branches.Goals as goal
 
 pub returns : goal.returns
-returns c = inputs_choose_branches
+returns c = choose_branches
