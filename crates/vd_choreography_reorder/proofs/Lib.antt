@@ -20,3 +20,7 @@ mod ChoreographyCoalescingTexts
 mod Fitting
 mod Telling
 mod Stack
+mod Turns
+mod LaidOut
+mod Tidy
+mod Following

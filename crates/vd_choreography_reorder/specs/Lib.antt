@@ -8,3 +8,5 @@ pub mod Packets
 pub mod Waiting
 pub mod Joining
 pub mod Telling
+pub mod LaidOut
+pub mod Following
