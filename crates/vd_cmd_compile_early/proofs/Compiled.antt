@@ -25,10 +25,10 @@ made stores printed = record { status = Ended; stores = stores; printed = printe
 
 -- what is stored and printed is what is wanted
 pub answered : (program : NormalForm) (joint : Joint) (a : Assignment) (text prefix printed seen marked shown : List ℕ) (all : List (List Instr)) (plan : Digest) (form : NormalForm) (stores : List Stored)
-    → printed ≡ printed_at program a → seen ≡ printed → marked ≡ seen ++ codes "early\n" → shown ≡ marked → plan.bytes ≡ sha256 (text ++ shown) → form ≡ program
+    → printed ≡ printed_at program a → seen ≡ printed → marked ≡ seen ++ codes "early by rank\n" → shown ≡ marked → plan.bytes ≡ sha256 (text ++ shown) → form ≡ program
     → all ≡ each_code (length program.hosts) joint → stores ≡ host_files prefix form.hosts plan 0 all → Computes (early_at program joint a text prefix) (Ok (made stores printed))
 answered program joint a text prefix printed seen marked shown all plan form stores p q m s b f codes_are is =
-    let behind : shown ≡ printed_at program a ++ codes "early\n" = s ∙ m ∙ ap (λ (t : List ℕ). t ++ codes "early\n") (q ∙ p) in
+    let behind : shown ≡ printed_at program a ++ codes "early by rank\n" = s ∙ m ∙ ap (λ (t : List ℕ). t ++ codes "early by rank\n") (q ∙ p) in
     let digest : plan ≡ early_plan_for text (printed_at program a) = λ i. record { bytes = (b ∙ ap (λ (t : List ℕ). sha256 (text ++ t)) behind) i } in
     let files : stores ≡ host_files prefix program.hosts (early_plan_for text (printed_at program a)) 0 (each_code (length program.hosts) joint) =
     is ∙ (λ i. host_files prefix (f i).hosts (digest i) 0 (codes_are i)) in

@@ -21,7 +21,7 @@ use Rattle.vd_projection.specs.Early.{each_code}
 -- The programs of one source and one choice in an order that waits less know each other by this digest, which is not that of the programs
 -- in program order.
 abbrev pub early_plan_for : (text printed : List ℕ) → Digest
-early_plan_for text printed = plan_for text (printed ++ codes "early\n")
+early_plan_for text printed = plan_for text (printed ++ codes "early by rank\n")
 
 -- The code of each host is stored in its file, where this is what all hosts do together; and the choice is printed with its cost.
 abbrev pub early_at : NormalForm → Joint → Assignment → (text prefix : List ℕ) → Answer
