@@ -1,14 +1,17 @@
 -- Code that follows another one tells the same.
-use Rattle.std.proofs.Common.{◌≡◌, ◌≢◌, inl, inr, ℕ, zero, suc, Bool, true, false, if◌then◌else◌, List, [], ◌∷◌, ◌++◌, Option, refl, sym, ap, ap₂, ◌∙◌, subst}
+use Rattle.std.proofs.Common.{◌≡◌, ◌≢◌, inl, inr, ℕ, zero, suc, ◌<◌, ◌+◌, nat_eq, nat_lt, Bool, true, false, if◌then◌else◌, List, [], ◌∷◌, ◌++◌, length, Option, Some, refl, sym, ap, ap₂, ◌∙◌, subst, arith}
+use Rattle.std.proofs.lemmas.Bool.{ltb-true}
+use Rattle.vd_base.specs.declared.operations.Op.TheVariants as op
+use Rattle.vd_base.specs.Operations.{operation}
 use Rattle.vd_execution.specs.declared.instructions.Reg.{Reg}
 use Rattle.vd_execution.specs.declared.instructions.Action.{Action}
-use Rattle.vd_execution.specs.Registers.{Registers, put, put_each, written, applied}
-use Rattle.vd_execution.specs.Step.{Cursors, Need, advanced, need_of_action, word_printed, words_in}
+use Rattle.vd_execution.specs.Registers.{Registers, put, put_each, written, applied, nth}
+use Rattle.vd_execution.specs.Step.{Cursors, Need, Nothing, Unequal, advanced, need_of_action, word_printed, words_in}
 use Rattle.vd_execution.specs.World.{Tape}
 use Rattle.vd_execution.specs.Joint.{Part, Joint, If, Host, Hosts, acted, supplied, with_print, said_to, has_heard, after_do, after_msg, is_other, turn_begun, turns, joint, AllTurns, GuardsAre, IsSmooth}
 use Rattle.vd_execution.proofs.Front.{same_or_not, put_same, put_other, put_itself}
 use Rattle.vd_choreography_reorder.specs.LaidOut.{then_joint}
-use Rattle.vd_choreography_reorder.specs.Following.{Place, At, Is, Lost, Places, Stands, AllStand, Sight, seen, AreMapped, ActsFollow, IsLeftOut, IsAdded, MessagesFollow, TurnsFollow, Follows, Ends, Both, Less, More, Message, Branch, OneWay, Loop, ComesAlong, FollowedCodeTellsTheSame, ConstantsAreKnown, CopiesAreFollowed, OperationsAreRenamed}
+use Rattle.vd_choreography_reorder.specs.Following.{Place, At, Is, Lost, Places, Stands, AllStand, Sight, seen, AreMapped, ActsFollow, IsLeftOut, IsAdded, MessagesFollow, TurnsFollow, Follows, Ends, Both, Less, More, Message, Branch, OneWay, Loop, ComesAlong, FollowedCodeTellsTheSame, ConstantsAreKnown, CopiesAreFollowed, StandIn, filled_places, IsFree, AreFree, Constants, Copies, Operations, LeftShifts, RightShifts, Choices, Drawn, Fetched, Products, BitProducts, Converted, Prints, Comparisons, ActsAreRenamed, MessagesAreRenamed, ArraysAreRenamed}
 use Rattle.vd_choreography_reorder.proofs.LaidOut.{behind, smooth_behind}
 
 -- ---- one host changes
@@ -83,6 +86,10 @@ module _ (t : Tape) (m : ℕ → Places) (w v : Hosts) (h : ℕ) (here : Places)
 
 -- ---- messages
 
+as_many : (f : Registers) (rs : List Reg) → length (words_in f rs) ≡ length rs
+as_many f [] = refl
+as_many f (r ∷ rs) = ap suc (as_many f rs)
+
 abbrev said_sight : ℕ → List ℕ → Sight → Sight
 said_sight b words z = (z.0, (z.1.0, put z.1.1 b (z.1.1 b ++ words ∷ [])))
 
@@ -107,7 +114,7 @@ module _ (m : ℕ → Places) (w v : Hosts) (a : ℕ) (said says : List Reg) (b 
   message_mapped =
       put_mapped m (put w a (said_to b old_words (w a))) (put v a (said_to b new_words (v a))) b here (has_heard heard old_words (w b)) (has_heard hears new_words (v b)) sent_mapped
       (subst (λ (words : List ℕ). AllStand here (put_each (w b).registers heard old_words) (put_each (v b).registers hears words)) (sym same_words)
-      (x.filled (w b).registers (v b).registers old_words (all.words b)))
+      (x.filled (w b).registers (v b).registers old_words (as_many (w a).registers said) (all.words b)))
       (all.same b)
 
 -- ---- blocks
@@ -242,30 +249,149 @@ free_stands (At u) old new s q word free stands = put_other new q word u (λ (e 
 free_stands (Is k) old new s q word free stands = stands
 free_stands Lost old new s q word free stands = tt
 
-pub operations_renamed : OperationsAreRenamed
-operations_renamed m o r x y q u s first second free = record {
-  words = λ old new xs all. result old new all;
+-- ---- registers of their own
+
+word_at : (m : Places) (old new : Registers) (x u : Reg) → m x.0 ≡ At u.0 → AllStand m old new → new u.0 ≡ old x.0
+word_at m old new x u e all = subst (Stands old new x.0) e (all x.0)
+
+-- one register gets a word, and another has it
+one_word : (m : Places) (old new : Registers) (r q : Reg) (x y : ℕ) → y ≡ x → IsFree m r.0 q.0 → AllStand m old new
+    → AllStand (put m r.0 (At q.0)) (put old r.0 x) (put new q.0 y)
+one_word m old new r q x y same free all s =
+    elim (same_or_not s r.0) [
+      | inl e ↦
+          subst (λ (k : ℕ). Stands (put old r.0 x) (put new q.0 y) k (put m r.0 (At q.0) k)) (sym e)
+          (subst (λ (p : Place). Stands (put old r.0 x) (put new q.0 y) r.0 p) (sym (put_same m r.0 (At q.0)))
+          (put_same new q.0 y ∙ same ∙ sym (put_same old r.0 x)))
+      | inr ne ↦
+          subst (λ (p : Place). Stands (put old r.0 x) (put new q.0 y) s p) (sym (put_other m r.0 (At q.0) s ne))
+          (stands_moved (m s) old (put old r.0 x) (put new q.0 y) s s (put_other old r.0 x s ne) (free_stands (m s) old new s q.0 y (free s ne) (all s)))
+    ]
+
+many_words : (m : Places) (rs qs : List Reg) (ws : List ℕ) (old new : Registers) → AreFree m rs qs → length ws ≡ length rs → AllStand m old new
+    → AllStand (filled_places m rs qs) (put_each old rs ws) (put_each new qs ws)
+many_words m [] [] ws old new free long all = all
+many_words m [] (q ∷ qs) ws old new free long all = absurd free
+many_words m (r ∷ rs) [] ws old new free long all = absurd free
+many_words m (r ∷ rs) (q ∷ qs) [] old new free long all = absurd (omega (arith, long))
+many_words m (r ∷ rs) (q ∷ qs) (x ∷ ws) old new free long all =
+    many_words (put m r.0 (At q.0)) rs qs ws (put old r.0 x) (put new q.0 x) free.1 (omega (arith, long)) (one_word m old new r q x x refl free.0 all)
+
+same_words_in : (m : Places) (rs qs : List Reg) (old new : Registers) → StandIn m rs qs → AllStand m old new → words_in new qs ≡ words_in old rs
+same_words_in m [] [] old new stand all = refl
+same_words_in m [] (q ∷ qs) old new stand all = absurd stand
+same_words_in m (r ∷ rs) [] old new stand all = absurd stand
+same_words_in m (r ∷ rs) (q ∷ qs) old new stand all =
+    ap₂ (λ (w : ℕ) (ws : List ℕ). w ∷ ws) (word_at m old new r q stand.0 all) (same_words_in m rs qs old new stand.1 all)
+
+pub acts_renamed : ActsAreRenamed
+acts_renamed m a b (Constants r q k) stand free = record {
+  words = λ old new xs all. one_word m old new r q k k refl free.0 all;
   needs = λ old new all. refl;
   prints = λ old new all. refl;
   compares = λ old new all agrees. tt;
 }
-  where
-    same : (old new : Registers) → AllStand m old new → applied o (new u.0) (new s.0) ≡ applied o (old x.0) (old y.0)
-    same old new all =
-        ap₂ (applied o) (subst (Stands old new x.0) first (all x.0)) (subst (Stands old new y.0) second (all y.0))
+acts_renamed m a b (Copies r x q u) stand free = record {
+  words = λ old new xs all. one_word m old new r q (old x.0) (new u.0) (word_at m old new x u stand.0 all) free.0 all;
+  needs = λ old new all. refl;
+  prints = λ old new all. refl;
+  compares = λ old new all agrees. tt;
+}
+acts_renamed m a b (Operations o r x y q u s) stand free = record {
+  words = λ old new xs all. one_word m old new r q (applied o (old x.0) (old y.0)) (applied o (new u.0) (new s.0))
+      (ap₂ (applied o) (word_at m old new x u stand.0 all) (word_at m old new y s stand.1.0 all)) free.0 all;
+  needs = λ old new all. refl;
+  prints = λ old new all. refl;
+  compares = λ old new all agrees. tt;
+}
+acts_renamed m a b (LeftShifts r x q u k) stand free = record {
+  words = λ old new xs all. one_word m old new r q (operation (op.Shl k) (old x.0) 0 0) (operation (op.Shl k) (new u.0) 0 0)
+      (ap (λ (z : ℕ). operation (op.Shl k) z 0 0) (word_at m old new x u stand.0 all)) free.0 all;
+  needs = λ old new all. refl;
+  prints = λ old new all. refl;
+  compares = λ old new all agrees. tt;
+}
+acts_renamed m a b (RightShifts r x q u k) stand free = record {
+  words = λ old new xs all. one_word m old new r q (operation (op.Shr k) (old x.0) 0 0) (operation (op.Shr k) (new u.0) 0 0)
+      (ap (λ (z : ℕ). operation (op.Shr k) z 0 0) (word_at m old new x u stand.0 all)) free.0 all;
+  needs = λ old new all. refl;
+  prints = λ old new all. refl;
+  compares = λ old new all agrees. tt;
+}
+acts_renamed m a b (Choices r c x y q d u s) stand free = record {
+  words = λ old new xs all. one_word m old new r q (operation op.Mux (old c.0) (old x.0) (old y.0)) (operation op.Mux (new d.0) (new u.0) (new s.0))
+      (ap (λ (z : ℕ). operation op.Mux z (new u.0) (new s.0)) (word_at m old new c d stand.0 all)
+      ∙ ap₂ (λ (z n : ℕ). operation op.Mux (old c.0) z n) (word_at m old new x u stand.1.0 all) (word_at m old new y s stand.1.1.0 all)) free.0 all;
+  needs = λ old new all. refl;
+  prints = λ old new all. refl;
+  compares = λ old new all agrees. tt;
+}
+acts_renamed m a b (Drawn r q) stand free = record {
+  words = λ old new xs all. one_word m old new r q (nth xs 0) (nth xs 0) refl free.0 all;
+  needs = λ old new all. refl;
+  prints = λ old new all. refl;
+  compares = λ old new all agrees. tt;
+}
+acts_renamed m a b (Fetched r q) stand free = record {
+  words = λ old new xs all. one_word m old new r q (nth xs 0) (nth xs 0) refl free.0 all;
+  needs = λ old new all. refl;
+  prints = λ old new all. refl;
+  compares = λ old new all agrees. tt;
+}
+acts_renamed m a b (Products p x y z u v w) stand free = record {
+  words = λ old new xs all. many_words m (x ∷ y ∷ z ∷ []) (u ∷ v ∷ w ∷ []) (nth xs 0 ∷ nth xs 1 ∷ nth xs 2 ∷ []) old new free refl all;
+  needs = λ old new all. refl;
+  prints = λ old new all. refl;
+  compares = λ old new all agrees. tt;
+}
+acts_renamed m a b (BitProducts p x y z u v w) stand free = record {
+  words = λ old new xs all. many_words m (x ∷ y ∷ z ∷ []) (u ∷ v ∷ w ∷ []) (nth xs 0 ∷ nth xs 1 ∷ nth xs 2 ∷ []) old new free refl all;
+  needs = λ old new all. refl;
+  prints = λ old new all. refl;
+  compares = λ old new all agrees. tt;
+}
+acts_renamed m a b (Converted p x y u v) stand free = record {
+  words = λ old new xs all. many_words m (x ∷ y ∷ []) (u ∷ v ∷ []) (nth xs 0 ∷ nth xs 1 ∷ []) old new free refl all;
+  needs = λ old new all. refl;
+  prints = λ old new all. refl;
+  compares = λ old new all agrees. tt;
+}
+acts_renamed m a b (Prints r q) stand free = record {
+  words = λ old new xs all. all;
+  needs = λ old new all. refl;
+  prints = λ old new all. ap Some (word_at m old new r q stand.0 all);
+  compares = λ old new all agrees. tt;
+}
+acts_renamed m a b (Comparisons x y u s) stand free = record {
+  words = λ old new xs all. all;
+  needs = λ old new all. ap₂ (λ (z n : ℕ). if nat_eq z n then Nothing else Unequal z n) (word_at m old new x u stand.0 all) (word_at m old new y s stand.1.0 all);
+  prints = λ old new all. refl;
+  compares = λ old new all agrees. word_at m old new x u stand.0 all ∙ agrees ∙ sym (word_at m old new y s stand.1.0 all);
+}
 
-    result : (old new : Registers) → AllStand m old new
-        → AllStand (put m r.0 (At q.0)) (put old r.0 (applied o (old x.0) (old y.0))) (put new q.0 (applied o (new u.0) (new s.0)))
-    result old new all z =
-        let word = applied o (old x.0) (old y.0) in
-        let other = applied o (new u.0) (new s.0) in
-        elim (same_or_not z r.0) [
-          | inl e ↦
-              subst (λ (k : ℕ). Stands (put old r.0 word) (put new q.0 other) k (put m r.0 (At q.0) k)) (sym e)
-              (subst (λ (p : Place). Stands (put old r.0 word) (put new q.0 other) r.0 p) (sym (put_same m r.0 (At q.0)))
-              (put_same new q.0 other ∙ same old new all ∙ sym (put_same old r.0 word)))
-          | inr ne ↦
-              subst (λ (p : Place). Stands (put old r.0 word) (put new q.0 other) z p) (sym (put_other m r.0 (At q.0) z ne))
-              (stands_moved (m z) old (put old r.0 word) (put new q.0 other) z z (put_other old r.0 word z ne)
-              (free_stands (m z) old new z q.0 other (free z ne) (all z)))
-        ]
+pub messages_renamed : MessagesAreRenamed
+messages_renamed from to said says heard hears long stand free = record {
+  told = λ old new all. same_words_in from said says old new stand all;
+  filled = λ old new xs as_long all. many_words to heard hears xs old new free (as_long ∙ long) all;
+}
+
+-- ---- arrays
+
+array_word : (b : Bool) (old new : Registers) (x u n k : ℕ) → nat_lt n k ≡ b → (n < k → new (u + n) ≡ old (x + n))
+    → (if b then new (u + n) else 0) ≡ (if b then old (x + n) else 0)
+array_word true old new x u n k is same = same (ltb-true n k is)
+array_word false old new x u n k is same = refl
+
+pub arrays_renamed : ArraysAreRenamed
+arrays_renamed m r x i q u j count array number free = record {
+  words = λ old new xs all.
+      let index = word_at m old new i j number all in
+      one_word m old new r q (if nat_lt (old i.0) count then old (x.0 + old i.0) else 0) (if nat_lt (new j.0) count then new (u.0 + new j.0) else 0)
+      (ap (λ (n : ℕ). if nat_lt n count then new (u.0 + n) else 0) index
+      ∙ array_word (nat_lt (old i.0) count) old new x.0 u.0 (old i.0) count refl
+      (λ lt. subst (Stands old new (x.0 + old i.0)) (array (old i.0) lt) (all (x.0 + old i.0))))
+      free all;
+  needs = λ old new all. refl;
+  prints = λ old new all. refl;
+  compares = λ old new all agrees. tt;
+}

@@ -1,5 +1,6 @@
 -- Joint code in which some words are known and others have other registers: where each word of the old code is, act by act.
-use Rattle.std.specs.Prelude.{◌≡◌, ◌≢◌, ℕ, Bool, if◌then◌else◌, List, [], None}
+use Rattle.std.specs.Prelude.{◌≡◌, ◌≢◌, ◌<◌, ◌+◌, ℕ, Bool, if◌then◌else◌, List, [], ◌∷◌, None, length}
+use Rattle.vd_base.specs.declared.ids.HostId.{HostId}
 use Rattle.vd_execution.specs.declared.instructions.Reg.{Reg}
 use Rattle.vd_execution.specs.declared.instructions.Binary.{Binary}
 use Rattle.vd_execution.specs.declared.instructions.Action.{Action}
@@ -8,6 +9,7 @@ use Rattle.vd_execution.specs.Registers.{Registers, put, put_each, written}
 use Rattle.vd_execution.specs.Step.{Cursors, Nothing, need_of_action, word_printed, words_in}
 use Rattle.vd_execution.specs.World.{Tape}
 use Rattle.vd_execution.specs.Joint.{Part, Joint, Done, Do, Msg, If, For, Host, Hosts, is_other, turn_begun, joint, Agrees, GuardsAre, IsSmooth}
+use Rattle.vd_reorder.specs.ReorderLawsTesting.{reads, writes}
 use Rattle.vd_choreography_reorder.specs.LaidOut.{then_joint}
 
 -- ---- where words are
@@ -67,7 +69,7 @@ pub record IsAdded (m : Places) (b : Action) (n : Places) : Type 0 where
 -- Both tell a message: its words, where the sender has them, and where the receiver has them behind it.
 pub record MessagesFollow (from to : Places) (said says heard hears : List Reg) (n : Places) : Type 0 where
   pub told : (old new : Registers) → AllStand from old new → words_in new says ≡ words_in old said
-  pub filled : (old new : Registers) (xs : List ℕ) → AllStand to old new → AllStand n (put_each old heard xs) (put_each new hears xs)
+  pub filled : (old new : Registers) (xs : List ℕ) → length xs ≡ length said → AllStand to old new → AllStand n (put_each old heard xs) (put_each new hears xs)
 
 -- Both decide a branch alike.
 pub record GuardsFollow (m : ℕ → Places) (ps qs : List Part) : Type 0 where
@@ -121,11 +123,58 @@ ConstantsAreKnown = (m : Places) (r : Reg) (k : ℕ) → IsLeftOut m (action.Con
 abbrev pub CopiesAreFollowed : Type 0
 CopiesAreFollowed = (m : Places) (r x : Reg) → IsLeftOut m (action.Copy r x) (put m r.0 (m x.0))
 
--- no word is in a register
+-- and what is read may stand in other registers, as what is written may in any that are free.
+
+-- ---- registers of their own
+
+-- the words of some registers are in others
+abbrev pub StandIn : Places → List Reg → List Reg → Type 0
+StandIn m [] [] = Unit {0}
+StandIn m [] (q ∷ qs) = ⊥
+StandIn m (r ∷ rs) [] = ⊥
+StandIn m (r ∷ rs) (q ∷ qs) = (m r.0 ≡ At q.0) × StandIn m rs qs
+
+-- where words are, behind such as some registers get and others have
+abbrev pub filled_places : Places → List Reg → List Reg → Places
+filled_places m [] qs = m
+filled_places m (r ∷ rs) [] = m
+filled_places m (r ∷ rs) (q ∷ qs) = filled_places (put m r.0 (At q.0)) rs qs
+
+-- no word but that of r is in the register
 abbrev pub IsFree : Places → ℕ → ℕ → Type 0
 IsFree m r q = (s : ℕ) → s ≢ r → m s ≢ At q
 
--- and an operation on words that are in registers gives its word in any that is free.
-abbrev pub OperationsAreRenamed : Type 0
-OperationsAreRenamed = (m : Places) (o : Binary) (r x y q u s : Reg) → m x.0 ≡ At u.0 → m y.0 ≡ At s.0 → IsFree m r.0 q.0
-    → ActsFollow m (action.Apply o r x y) (action.Apply o q u s) (put m r.0 (At q.0))
+abbrev pub AreFree : Places → List Reg → List Reg → Type 0
+AreFree m [] [] = Unit {0}
+AreFree m [] (q ∷ qs) = ⊥
+AreFree m (r ∷ rs) [] = ⊥
+AreFree m (r ∷ rs) (q ∷ qs) = IsFree m r.0 q.0 × AreFree (put m r.0 (At q.0)) rs qs
+
+-- acts that do the same with other registers
+pub data DoAlike : Action → Action → Type 0 where
+  Constants : (r q : Reg) (k : ℕ) → DoAlike (action.Const r k) (action.Const q k)
+  Copies : (r x q u : Reg) → DoAlike (action.Copy r x) (action.Copy q u)
+  Operations : (o : Binary) (r x y q u s : Reg) → DoAlike (action.Apply o r x y) (action.Apply o q u s)
+  LeftShifts : (r x q u : Reg) (k : ℕ) → DoAlike (action.Shl r x k) (action.Shl q u k)
+  RightShifts : (r x q u : Reg) (k : ℕ) → DoAlike (action.Shr r x k) (action.Shr q u k)
+  Choices : (r c x y q d u s : Reg) → DoAlike (action.Mux r c x y) (action.Mux q d u s)
+  Drawn : (r q : Reg) → DoAlike (action.Own r) (action.Own q)
+  Fetched : (r q : Reg) → DoAlike (action.Input r) (action.Input q)
+  Products : (p : HostId) (a b c d e f : Reg) → DoAlike (action.Triple p a b c) (action.Triple p d e f)
+  BitProducts : (p : HostId) (a b c d e f : Reg) → DoAlike (action.Bits p a b c) (action.Bits p d e f)
+  Converted : (p : HostId) (a b c d : Reg) → DoAlike (action.Pair p a b) (action.Pair p c d)
+  Prints : (r q : Reg) → DoAlike (action.Print r) (action.Print q)
+  Comparisons : (x y u s : Reg) → DoAlike (action.Same x y) (action.Same u s)
+
+abbrev pub ActsAreRenamed : Type 0
+ActsAreRenamed = (m : Places) (a b : Action) → DoAlike a b → StandIn m (reads a) (reads b) → AreFree m (writes a) (writes b)
+    → ActsFollow m a b (filled_places m (writes a) (writes b))
+
+abbrev pub MessagesAreRenamed : Type 0
+MessagesAreRenamed = (from to : Places) (said says heard hears : List Reg) → length said ≡ length heard → StandIn from said says → AreFree to heard hears
+    → MessagesFollow from to said says heard hears (filled_places to heard hears)
+
+-- A word of an array is taken by a computed number, where the array's registers are in others in a row.
+abbrev pub ArraysAreRenamed : Type 0
+ArraysAreRenamed = (m : Places) (r x i q u j : Reg) (count : ℕ) → ((k : ℕ) → k < count → m (x.0 + k) ≡ At (u.0 + k)) → m i.0 ≡ At j.0 → IsFree m r.0 q.0
+    → ActsFollow m (action.Get r x count i) (action.Get q u count j) (put m r.0 (At q.0))

@@ -1,6 +1,6 @@
 //! Joint code in which known words are left out, and others have registers of their own. Nothing is computed here: the clauses are laws.
 
-ghost use Rattle.vd_choreography_reorder.specs.Following.{ConstantsAreKnown, CopiesAreFollowed, FollowedCodeTellsTheSame, OperationsAreRenamed};
+ghost use Rattle.vd_choreography_reorder.specs.Following.{ActsAreRenamed, ArraysAreRenamed, ConstantsAreKnown, CopiesAreFollowed, FollowedCodeTellsTheSame, MessagesAreRenamed};
 
 /// Where one code follows another, act by act and with the words of the one at known places of the other, all hosts take, print and send
 /// the same, packet by packet, and what ran smoothly does.
@@ -8,9 +8,12 @@ pub fn followed_code_tells_the_same()
     ensures { FollowedCodeTellsTheSame }
 {}
 
-/// What follows: a constant and a copy are left out, and what an operation makes stands in any register that is free.
+/// What follows: a constant and a copy may be left out. What an act or a message reads may stand in other registers, and what it fills in any
+/// that are free.
 pub fn words_are_followed()
     ensures constants { ConstantsAreKnown }
     ensures copies { CopiesAreFollowed }
-    ensures operations { OperationsAreRenamed }
+    ensures acts { ActsAreRenamed }
+    ensures messages { MessagesAreRenamed }
+    ensures arrays { ArraysAreRenamed }
 {}
