@@ -44,7 +44,7 @@ raised_if_at : (b : Bool) (p n : ℕ) (d : Table) → b ≡ true → n ≤ raise
 raised_if_at true p n d is = raised_at p n d
 raised_if_at false p n d is = absurd cc
 
-noted_grows : (c : ℕ) (rs : List Reg) (n : ℕ) (d : Table) → Grows d (noted c rs n d)
+pub noted_grows : (c : ℕ) (rs : List Reg) (n : ℕ) (d : Table) → Grows d (noted c rs n d)
 noted_grows c [] n d = stays d
 noted_grows c (r ∷ rs) n d =
     let e : Table = raised (place_of c r.0) n d in grown d e (noted c rs n e) (raised_grows (place_of c r.0) n d) (noted_grows c rs n e)
@@ -59,12 +59,12 @@ abbrev pub Have : ℕ → List Reg → ℕ → Table → Type 0
 Have c [] n d = Unit {0}
 Have c (r ∷ rs) n d = (n ≤ d (place_of c r.0)) × Have c rs n d
 
-have_grown : (c : ℕ) (rs : List Reg) (n m : ℕ) (d e : Table) → n ≤ m → Grows d e → Have c rs m d → Have c rs n e
+pub have_grown : (c : ℕ) (rs : List Reg) (n m : ℕ) (d e : Table) → n ≤ m → Grows d e → Have c rs m d → Have c rs n e
 have_grown c [] n m d e le g h = tt
 have_grown c (r ∷ rs) n m d e le g h =
     let a = g (place_of c r.0) in let b = h.0 in (omega (arith, a, b, le), have_grown c rs n m d e le g h.1)
 
-noted_have : (c : ℕ) (rs : List Reg) (n : ℕ) (d : Table) → Have c rs n (noted c rs n d)
+pub noted_have : (c : ℕ) (rs : List Reg) (n : ℕ) (d : Table) → Have c rs n (noted c rs n d)
 noted_have c [] n d = tt
 noted_have c (r ∷ rs) n d =
     let e : Table = raised (place_of c r.0) n d in
@@ -185,7 +185,7 @@ module _ (h : ℕ) (a : Action) (n : ℕ) (d : Table) where
   }
 
 module _ (opens : Bool) (a : ℕ) (said : List Reg) (b : ℕ) (heard : List Reg) (n : ℕ) (d : Table) where
-  abbrev later : ℕ
+  abbrev pub later : ℕ
   later = next_round n
 
   not_before : n ≤ later
@@ -197,28 +197,28 @@ module _ (opens : Bool) (a : ℕ) (said : List Reg) (b : ℕ) (heard : List Reg)
   abbrev said_left : Table
   said_left = noted (room_column a) said n used
 
-  abbrev sent : Table
+  abbrev pub sent : Table
   sent = raised_if opens (telling_place a) n said_left
 
-  abbrev words_left : Table
+  abbrev pub words_left : Table
   words_left = noted (word_column b) heard later sent
 
-  abbrev filled_left : Table
+  abbrev pub filled_left : Table
   filled_left = noted (room_column b) heard later words_left
 
   abbrev awaited : Table
   awaited = raised (telling_place b) later filled_left
 
-  abbrev packet_after : Table
+  abbrev pub packet_after : Table
   packet_after = raised top_place n awaited
 
   awaited_grows : Grows awaited packet_after
   awaited_grows = raised_grows top_place n awaited
 
-  filled_left_grows : Grows filled_left packet_after
+  pub filled_left_grows : Grows filled_left packet_after
   filled_left_grows = grown filled_left awaited packet_after (raised_grows (telling_place b) later filled_left) awaited_grows
 
-  words_left_grows : Grows words_left packet_after
+  pub words_left_grows : Grows words_left packet_after
   words_left_grows = grown words_left filled_left packet_after (noted_grows (room_column b) heard later words_left) filled_left_grows
 
   sent_grows : Grows sent packet_after

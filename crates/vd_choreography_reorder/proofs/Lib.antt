@@ -24,3 +24,4 @@ mod Turns
 mod LaidOut
 mod Tidy
 mod Following
+mod Rounds

@@ -21,7 +21,7 @@ use Rattle.vd_choreography_reorder.proofs.Growing.{Have, deepest_from, deepest_o
 
 -- ---- tests that say no
 
-not_yes : (b : Bool) → not b ≡ false → b ≡ true
+pub not_yes : (b : Bool) → not b ≡ false → b ≡ true
 not_yes true e = refl
 not_yes false e = absurd cc
 
@@ -29,7 +29,7 @@ one_no : (a b : Bool) → (a && b) ≡ false → (a ≡ false) ⊎ (b ≡ false)
 one_no true b e = inr e
 one_no false b e = inl refl
 
-neither : (a b : Bool) → (a || b) ≡ false → (a ≡ false) × (b ≡ false)
+pub neither : (a b : Bool) → (a || b) ≡ false → (a ≡ false) × (b ≡ false)
 neither true b e = absurd cc
 neither false b e = (refl, e)
 
@@ -61,7 +61,7 @@ shared (Packet p n) k e = absurd cc
 shared (Unequal x y) k e = absurd cc
 shared Ended k e = absurd cc
 
-still : (n m k : ℕ) → n ≤ m → m ≤ k → n ≤ k
+pub still : (n m k : ℕ) → n ≤ m → m ≤ k → n ≤ k
 still n m k a b = omega (arith, a, b)
 
 held_there : (b : Bool) (p : ℕ) (d : Table) → b ≡ true → d p ≤ held b p d
@@ -99,12 +99,12 @@ module _ (e : Table) (h : ℕ) (b : Action) where
       still (e (telling_place h)) second (act_rank e h b) (held_there (not (is_simple b)) (telling_place h) e is)
       (still second (max (max (e floor_place) first) second) (act_rank e h b) (omega arith) over_floor)
 
-  act_reads : (qs : List Reg) (n : ℕ) → meet (reads b) qs ≡ true → Have (word_column h) qs n e → n ≤ act_rank e h b
+  pub act_reads : (qs : List Reg) (n : ℕ) → meet (reads b) qs ≡ true → Have (word_column h) qs n e → n ≤ act_rank e h b
   act_reads qs n m have =
       still n behind_words (act_rank e h b) (deepest_of e (word_column h) (act_floor e h b) (reads b) qs n m have)
       (deepest_from e (room_column h) behind_words (writes b))
 
-  act_writes : (qs : List Reg) (n : ℕ) → meet (writes b) qs ≡ true → Have (room_column h) qs n e → n ≤ act_rank e h b
+  pub act_writes : (qs : List Reg) (n : ℕ) → meet (writes b) qs ≡ true → Have (room_column h) qs n e → n ≤ act_rank e h b
   act_writes qs n m have = deepest_of e (room_column h) behind_words (writes b) qs n m have
 
 -- ---- behind what a packet stands
@@ -135,12 +135,12 @@ module _ (opens : Bool) (e : Table) (c : ℕ) (says : List Reg) (d : ℕ) (hears
       still (e (telling_place c)) second (packet_rank opens e c says d hears) (held_there opens (telling_place c) e is)
       (still second (max (e floor_place) second) (packet_rank opens e c says d hears) (omega arith) over_packet_floor)
 
-  packet_says : (qs : List Reg) (n : ℕ) → meet says qs ≡ true → Have (word_column c) qs n e → n ≤ packet_rank opens e c says d hears
+  pub packet_says : (qs : List Reg) (n : ℕ) → meet says qs ≡ true → Have (word_column c) qs n e → n ≤ packet_rank opens e c says d hears
   packet_says qs n m have =
       still n behind_said (packet_rank opens e c says d hears) (deepest_of e (word_column c) (packet_floor opens e c) says qs n m have)
       (still behind_said behind_both (packet_rank opens e c says d hears) (deepest_from e (room_column d) behind_said hears) over_both)
 
-  packet_hears : (qs : List Reg) (n : ℕ) → meet hears qs ≡ true → Have (room_column d) qs n e → n ≤ packet_rank opens e c says d hears
+  pub packet_hears : (qs : List Reg) (n : ℕ) → meet hears qs ≡ true → Have (room_column d) qs n e → n ≤ packet_rank opens e c says d hears
   packet_hears qs n m have = still n behind_both (packet_rank opens e c says d hears) (deepest_of e (room_column d) behind_said hears qs n m have) over_both
 
 turned : (xs ys : List Reg) → meet xs ys ≡ true → meet ys xs ≡ true
@@ -327,7 +327,7 @@ lower_passes true n m refused lower = refl
 lower_passes false n m refused lower = let le = refused refl in let lt = ltb-true m n lower in absurd (omega (arith, le, lt))
 
 module _ (opened : Opened) where
-  lower_ones : (k : Line) (n : ℕ) (e : Table) (ls : List Line) → AreBetween k → AllAreBetween ls → LineLeaves opened k n e
+  pub lower_ones : (k : Line) (n : ℕ) (e : Table) (ls : List Line) → AreBetween k → AllAreBetween ls → LineLeaves opened k n e
       → LowerOnesPass opened (record { rank = n; line = k }) (ranked opened e ls)
   lower_ones k n e [] bk all l = tt
   lower_ones k n e (m ∷ ms) bk all l =
@@ -336,7 +336,7 @@ module _ (opened : Opened) where
         lower_ones k n d ms bk all.1 (line_grown opened k n e d (line_grows opened m (line_rank opened e m) e) l),
       )
 
-  all_apart : (d : Table) (ls : List Line) → AllAreBetween ls → AreApart opened (ranked opened d ls)
+  pub all_apart : (d : Table) (ls : List Line) → AllAreBetween ls → AreApart opened (ranked opened d ls)
   all_apart d [] all = tt
   all_apart d (l ∷ ls) all =
       let n : ℕ = line_rank opened d l in
@@ -349,7 +349,7 @@ each_between : (ps : List Part) (mark : Part → Line) (behind : List Line) → 
 each_between [] mark behind one all = all
 each_between (p ∷ ps) mark behind one all = (one p, each_between ps mark behind one all)
 
-all_between : (j : Joint) (behind : List Line) → IsTidy j → AllAreBetween behind → AllAreBetween (flat j behind)
+pub all_between : (j : Joint) (behind : List Line) → IsTidy j → AllAreBetween behind → AllAreBetween (flat j behind)
 all_between Done behind tidy all = all
 all_between (Do h a j) behind tidy all = (tt, all_between j behind tidy all)
 all_between (Msg a said b heard j) behind tidy all = (tidy.0, all_between j behind tidy.1.1 all)

@@ -1,14 +1,20 @@
 -- The order of the pass: joint code sorted by rank. What ranks alike stays in its order.
-use Rattle.std.specs.Prelude.{◌≡◌, ℕ, ◌≤◌, nat_eq, nat_lt, true, if◌then◌else◌, List, [], ◌∷◌}
+use Rattle.std.specs.Prelude.{◌≡◌, ℕ, ◌≤◌, ◌<◌, nat_eq, nat_lt, true, false, if◌then◌else◌, List, [], ◌∷◌}
 use Rattle.std.specs.List.{filter}
+use Rattle.vd_execution.specs.declared.instructions.Reg.{Reg}
+use Rattle.vd_execution.specs.declared.instructions.Act.{Act}
+use Rattle.vd_execution.specs.declared.instructions.Act.TheVariants as act
 use Rattle.vd_execution.specs.declared.instructions.Line.{Line}
+use Rattle.vd_execution.specs.declared.instructions.Line.TheVariants as line
 use Rattle.vd_execution.specs.Joint.{Joint, IsTidy}
 use Rattle.vd_execution.specs.Text.{flat}
+use Rattle.vd_reorder.specs.ReorderLawsTesting.{meet, reads, writes}
+use Rattle.vd_reorder.specs.Turning.{Turn, Does, Tells}
 use Rattle.vd_choreography_reorder.specs.declared.ranks.Ranked.{Ranked}
 use Rattle.vd_choreography_reorder.specs.Testing.{Opened, may_pass}
 use Rattle.vd_choreography_reorder.specs.Order.{IsBroughtForward}
-use Rattle.vd_choreography_reorder.specs.Passing.{passes}
-use Rattle.vd_choreography_reorder.specs.Ranks.{nothing_left, ranked, lines_of}
+use Rattle.vd_choreography_reorder.specs.Passing.{passes, turn_of}
+use Rattle.vd_choreography_reorder.specs.Ranks.{nothing_left, next_round, ranked, lines_of}
 
 -- a line behind those that rank lower
 abbrev pub placed : Ranked → List Ranked → List Ranked
@@ -55,6 +61,44 @@ AreApart opened (x ∷ xs) = LowerOnesPass opened x xs × AreApart opened xs
 
 abbrev pub RanksAreApart : Type 0
 RanksAreApart = (opened : Opened) (j : Joint) → IsTidy j → AreApart opened (ranked opened nothing_left (flat j []))
+
+-- ---- a host may send all of a round before it awaits any
+
+-- what is done leaves the registers that a packet fills at a host, and reads none of them
+abbrev pub NeedsNothingOf : ℕ → List Reg → Turn → Type 0
+NeedsNothingOf h heard (Does g b) = g ≡ h → (meet (reads b) heard ≡ false) × (meet (writes b) heard ≡ false)
+NeedsNothingOf h heard (Tells c says d hears) = (c ≡ h → meet says heard ≡ false) × (d ≡ h → meet hears heard ≡ false)
+
+abbrev pub ActNeedsNothing : Act → Line → Type 0
+ActNeedsNothing (act.Do h a) l = Unit {0}
+ActNeedsNothing (act.Msg a said b heard) (line.Act y) = NeedsNothingOf b.0 heard (turn_of y)
+ActNeedsNothing (act.Msg a said b heard) (line.If h g) = Unit {0}
+ActNeedsNothing (act.Msg a said b heard) (line.Else h) = Unit {0}
+ActNeedsNothing (act.Msg a said b heard) (line.For h r count) = Unit {0}
+ActNeedsNothing (act.Msg a said b heard) (line.End h) = Unit {0}
+
+abbrev pub LineNeedsNothing : Line → Line → Type 0
+LineNeedsNothing (line.Act x) l = ActNeedsNothing x l
+LineNeedsNothing (line.If h g) l = Unit {0}
+LineNeedsNothing (line.Else h) l = Unit {0}
+LineNeedsNothing (line.For h r count) l = Unit {0}
+LineNeedsNothing (line.End h) l = Unit {0}
+
+-- What ranks in the round of a packet that is heard needs nothing of it.
+abbrev pub IsOfNoNeed : Ranked → Ranked → Type 0
+IsOfNoNeed x y = y.rank < next_round x.rank → LineNeedsNothing x.line y.line
+
+abbrev pub NoneNeeds : Ranked → List Ranked → Type 0
+NoneNeeds x [] = Unit {0}
+NoneNeeds x (y ∷ ys) = IsOfNoNeed x y × NoneNeeds x ys
+
+abbrev pub NoneNeedTheRound : List Ranked → Type 0
+NoneNeedTheRound [] = Unit {0}
+NoneNeedTheRound (x ∷ xs) = NoneNeeds x xs × NoneNeedTheRound xs
+
+-- In the order of the pass nothing that stands behind a packet in its round needs it.
+abbrev pub RoundsAreApart : Type 0
+RoundsAreApart = (opened : Opened) (j : Joint) → IsTidy j → NoneNeedTheRound (in_order (ranked opened nothing_left (flat j [])))
 
 -- Tidy code in this order tells the same.
 abbrev pub SortedCodeIsBroughtForward : Type 0

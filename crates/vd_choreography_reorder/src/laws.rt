@@ -3,7 +3,7 @@
 ghost use Rattle.vd_choreography_reorder.specs.Examples.{DrawnWordsAreToldFirst, OpenedWordsStay, WordsGoSideBySide};
 ghost use Rattle.vd_choreography_reorder.specs.Order.{CodeThatIsBroughtForwardRunsOn, OrderIsKept};
 ghost use Rattle.vd_choreography_reorder.specs.Passing.{ArrangedLinesAreBroughtForward};
-ghost use Rattle.vd_choreography_reorder.specs.Sorting.{LinesStandByRank, RanksAreApart, SortedCodeIsBroughtForward};
+ghost use Rattle.vd_choreography_reorder.specs.Sorting.{LinesStandByRank, RanksAreApart, RoundsAreApart, SortedCodeIsBroughtForward};
 ghost use Rattle.vd_choreography_reorder.specs.Testing.{TestIsSound};
 
 /// The test by registers and lists says yes only where neighbours in joint code may be exchanged.
@@ -32,6 +32,12 @@ pub fn order_is_sorted()
 /// In tidy code what ranks lower than a line before it may pass it: so the pass makes no exchange that may not be made.
 pub fn ranks_are_apart()
     ensures { RanksAreApart }
+{}
+
+/// In the order of the pass nothing that stands behind a packet in its round needs it: so a host may do and send all of a round before it
+/// awaits any packet of it.
+pub fn rounds_are_apart()
+    ensures { RoundsAreApart }
 {}
 
 /// Worked lines: masked words of two gadgets go side by side, a drawn word is told before it is used, and a word that is opened stays

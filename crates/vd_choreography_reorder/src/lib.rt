@@ -12,7 +12,7 @@ mod ranks;
 pub use choreography_coalescing::{join_packets, joined_code_tells_the_same};
 pub use choreography_packets::{nothing_is_told_earlier, packets_are_kept};
 pub use laws::{
-    order_is_kept, order_is_sorted, passes_bring_forward, ranks_are_apart, test_is_sound,
-    worked_lines,
+    order_is_kept, order_is_sorted, passes_bring_forward, ranks_are_apart, rounds_are_apart,
+    test_is_sound, worked_lines,
 };
 pub use passing::bring_forward;
