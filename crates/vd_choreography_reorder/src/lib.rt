@@ -4,12 +4,16 @@
 #![tactic(auto)]
 
 mod choreography_coalescing;
+mod choreography_following;
+mod choreography_laid_out;
 mod choreography_packets;
 mod laws;
 mod passing;
 mod ranks;
 
 pub use choreography_coalescing::{join_packets, joined_code_tells_the_same};
+pub use choreography_following::{followed_code_tells_the_same, words_are_followed};
+pub use choreography_laid_out::laid_out_code_does_the_same;
 pub use choreography_packets::{nothing_is_told_earlier, packets_are_kept};
 pub use laws::{
     order_is_kept, order_is_sorted, passes_bring_forward, ranks_are_apart, rounds_are_apart,

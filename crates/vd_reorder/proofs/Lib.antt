@@ -34,3 +34,5 @@ mod Tidy
 mod Apart
 mod Own
 mod Shown
+mod SentPast
+mod SentFirst

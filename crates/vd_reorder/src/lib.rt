@@ -9,6 +9,7 @@ mod registers;
 mod reorder_buffers;
 mod reorder_histories;
 mod reorder_laws;
+mod sending;
 mod testing;
 
 pub use acts::{both_may, is_simple};
@@ -22,3 +23,4 @@ pub use reorder_laws::{
     careful_passes_keep_the_order, each_code_is_hastened, hastened_hosts_are_on_the_way,
     hastened_starts_come_to_their_end, neighbours_may_be_exchanged, passes_exchange,
 };
+pub use sending::{Spaced, send_first, sent_first_is_hastened};
