@@ -124,9 +124,9 @@ plans_tell =
       early_source = λ text other printed e. append_cancel_right text other (printed ++ codes "early by rank\n") e;
       both = λ text printed other others same e. both_same text other printed others same e;
       early_both = λ text printed other others same e.
-          both_same text other printed others same (line_last text printed other others (codes "early\n") e);
+          both_same text other printed others same (line_last text printed other others (codes "early by rank\n") e);
       else_runs_on = λ text printed other others e. runs_on text printed other others e;
       early_else_runs_on = λ text printed other others e.
-          runs_on text printed other others (line_last text printed other others (codes "early\n") e);
+          runs_on text printed other others (line_last text printed other others (codes "early by rank\n") e);
       order = λ program a text other printed small e. other_order program a text other printed small e;
     }
