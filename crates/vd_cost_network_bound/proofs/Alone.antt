@@ -18,7 +18,7 @@ use Rattle.vd_space.specs.Points.{points}
 use Rattle.vd_cost_network_prefix.specs.declared.made.PointTable.{PointTable}
 use Rattle.vd_cost_network_prefix.specs.States.{AreSettings, IsSmallPoint, as_states, count_of_points, point_at, point_part, settings}
 use Rattle.vd_cost_network_tables.specs.declared.raw.RawArc.{RawArc}
-use Rattle.vd_cost_network_tables.specs.declared.sums.Rows.TheVariants.{Points}
+use Rattle.vd_space_tables.specs.declared.space_terms.sums.Rows.TheVariants.{Ends}
 use Rattle.vd_space_tables.specs.Sums.{AreSmallShifts}
 use Rattle.vd_cost_network_tables.specs.Sums.{sums_of}
 use Rattle.vd_cost_network_tables.specs.Tables.{point_table, point_tables_of, raw_arc, tests_of}
@@ -56,7 +56,7 @@ module _ (problem : Problem) (labelled : IsLabelled problem) (limits : IsWithinL
     (most : ℕ) (few : (point : ℕ) → settings problem point ≤ most) (states : List (Option ℕ)) (are : AreSettings problem (as_states states))
     (free : List (List ℕ)) (free_are : free ≡ by_place (count_of_points problem) (free_at problem)) where
   pub point_is : (raws : List RawArc) (k : ℕ) (sums : List (List ℤ)) (line : List ℤ) (values : List (Option ℤ)) (own : List ℕ) (result : ℤ)
-      → raws ≡ map (raw_arc problem) (arcs problem) → sums ≡ sums_of raws Points (count_of_points problem) most shifts → k < count_of_points problem
+      → raws ≡ map (raw_arc problem) (arcs problem) → sums ≡ sums_of raws Ends (count_of_points problem) most shifts → k < count_of_points problem
       → line ≡ get_or sums k [] → values ≡ values_at problem k → own ≡ settings_at free states k
       → result ≡ unwrap_or (least_among own (value_with values line)) no_parts_left
       → IsPart (point_part (point_tables_of problem shifts) (as_states states) k) result

@@ -18,7 +18,7 @@ use Rattle.vd_cost_network_prefix.specs.declared.made.ArcTable.{ArcTable}
 use Rattle.vd_cost_network_prefix.specs.States.{AreSettings, IsSmallArc, as_states, count_of_points, arc_at, arc_part, settings}
 use Rattle.vd_cost_network_prefix.proofs.Front.{pairs_size}
 use Rattle.vd_cost_network_tables.specs.declared.raw.RawArc.{RawArc}
-use Rattle.vd_cost_network_tables.specs.declared.sums.Rows.TheVariants.{Firsts, Seconds}
+use Rattle.vd_space_tables.specs.declared.space_terms.sums.Rows.TheVariants.{Firsts, Seconds}
 use Rattle.vd_space_tables.specs.Sums.{AreSmallShifts}
 use Rattle.vd_cost_network_tables.specs.Sums.{part}
 use Rattle.vd_cost_network_tables.specs.Tables.{cells_of, arc_table, arc_tables_of, raw_arc, tests_of}

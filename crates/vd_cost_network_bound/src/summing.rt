@@ -17,9 +17,10 @@ use crate::least::{least_of_arc, least_of_point, settings_at};
 use crate::made::NetworkBound;
 use std::alloc::{AllocError, Global};
 use vd_cost_network_prefix::{decide, undecided, whole_units};
-use vd_cost_network_tables::{Rows, most_settings, shift_sums};
+use vd_cost_network_tables::most_settings;
 use vd_search_tree::Shift;
 use vd_space::Problem;
+use vd_space_tables::{Rows, shift_sums};
 
 impl NetworkBound {
     /// What all points come to, each alone, by what is decided of each.
@@ -40,14 +41,7 @@ impl NetworkBound {
     {
         let count = self.values.as_slice().len();
         let most = most_settings(self.list.as_slice());
-        let sums = shift_sums(
-            alloc,
-            self.arcs.as_slice(),
-            Rows::Points,
-            count,
-            most,
-            shifts,
-        )?;
+        let sums = shift_sums(alloc, self.arcs.as_slice(), Rows::Ends, count, most, shifts)?;
         let mut sum = 0;
         for point in 0..count {
             let settings = settings_at(self.free.as_slice(), states, point);

@@ -28,7 +28,7 @@ use Rattle.vd_space.proofs.Front.{at_either, at_slot, at_switch}
 use Rattle.vd_cost_network_prefix.specs.declared.made.PointTable.{PointTable}
 use Rattle.vd_cost_network_prefix.specs.States.{AreSmallPoints, IsSmallPoint, count_of_points, settings}
 use Rattle.vd_cost_network_tables.specs.declared.raw.RawArc.{RawArc}
-use Rattle.vd_cost_network_tables.specs.declared.sums.Rows.TheVariants.{Points}
+use Rattle.vd_space_tables.specs.declared.space_terms.sums.Rows.TheVariants.{Ends}
 use Rattle.vd_space_tables.specs.Sums.{AreSmallShifts, AreSmallSums}
 use Rattle.vd_cost_network_tables.specs.Sums.{part, sums_of}
 use Rattle.vd_cost_network_tables.specs.Tables.{point_table, point_tables_of, raw_arc, switch_values, table_at, table_by, table_of_values, tests_of}
@@ -92,15 +92,15 @@ module _ (problem : Problem) (sums : List (List ℤ)) where
 -- ---- all tables
 
 module _ (problem : Problem) (shifts : List Shift) (raws : List RawArc) (most : ℕ) (sums : List (List ℤ)) (raws_are : raws ≡ map (raw_arc problem) (arcs problem))
-    (sums_are : sums ≡ sums_of raws Points (count_of_points problem) most shifts) (few : (point : ℕ) → settings problem point ≤ most) where
+    (sums_are : sums ≡ sums_of raws Ends (count_of_points problem) most shifts) (few : (point : ℕ) → settings problem point ≤ most) where
   pub gain_is : (point v : ℕ) → point < count_of_points problem → v < settings problem point → gain_at sums point v ≡ total (point_shift (arcs problem) point v) shifts
   gain_is point v low low_v =
       let room = few point in
-      let row : ℕ → List ℤ = λ r. by_place most (λ place. total (part raws Points r place) shifts) in
+      let row : ℕ → List ℤ = λ r. by_place most (λ place. total (part raws Ends r place) shifts) in
       ap (λ xs. gain_at xs point v) sums_are
       ∙ ap (λ line. get_or line v (pos 0)) (at_place (count_of_points problem) row point [] low)
-      ∙ at_place most (λ place. total (part raws Points point place) shifts) v (pos 0) (omega (arith, room, low_v))
-      ∙ ap (λ (rs : List RawArc). total (part rs Points point v) shifts) raws_are
+      ∙ at_place most (λ place. total (part raws Ends point place) shifts) v (pos 0) (omega (arith, room, low_v))
+      ∙ ap (λ (rs : List RawArc). total (part rs Ends point v) shifts) raws_are
       ∙ points_shifted problem (arcs problem) point v shifts
 
   table_is : (point : ℕ) → point < count_of_points problem → table_by problem sums point ≡ table_at problem shifts point

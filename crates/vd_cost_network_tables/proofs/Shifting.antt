@@ -9,7 +9,7 @@ use Rattle.vd_space.specs.Costs.{Pair, total}
 use Rattle.vd_space.specs.Bounds.{use_shift}
 use Rattle.vd_space_prefix.specs.Transfers.{by_place}
 use Rattle.vd_space_prefix.proofs.Front.{at_place, size_by_place}
-use Rattle.vd_space_tables.proofs.Front.{same_by_place}
+use Rattle.vd_space_tables.proofs.Front.{same_by_place, sides_together}
 use Rattle.vd_space.specs.Validity.{protocols}
 use Rattle.vd_space.specs.Points.{Switch, switches}
 use Rattle.vd_space.specs.Arcs.{arcs}
@@ -18,10 +18,9 @@ use Rattle.vd_space.proofs.Front.{at_either}
 use Rattle.vd_cost_network_prefix.specs.declared.made.ArcTable.{ArcTable}
 use Rattle.vd_cost_network_prefix.specs.States.{settings}
 use Rattle.vd_cost_network_tables.specs.declared.raw.RawArc.{RawArc}
-use Rattle.vd_cost_network_tables.specs.declared.sums.Rows.TheVariants.{Firsts, Seconds}
-use Rattle.vd_cost_network_tables.specs.Sums.{part}
+use Rattle.vd_space_tables.specs.declared.space_terms.sums.Rows.TheVariants.{Firsts, Seconds}
+use Rattle.vd_cost_network_tables.specs.Sums.{part, side_of}
 use Rattle.vd_cost_network_tables.specs.Tables.{cells_of, arc_table, raw_arc, shifted_cells, shifted_row, table_of_cells, tests_of}
-use Rattle.vd_cost_network_tables.proofs.Counting.{sides_together}
 use Rattle.vd_cost_network_tables.proofs.Placed.{tests_size}
 use Rattle.vd_cost_network_tables.proofs.Tabled.{cells_table}
 
@@ -39,7 +38,7 @@ module _ (problem : Problem) (raws : List RawArc) (shifts : List Shift) (k most 
   taken v w low low_w =
       let first = ap (λ list. get_or list v (pos 0)) from_is ∙ at_place most (λ r. total (part raws Firsts k r) shifts) v (pos 0) (omega (arith, low, few)) in
       let second = ap (λ list. get_or list w (pos 0)) to_is ∙ at_place most (λ r. total (part raws Seconds k r) shifts) w (pos 0) (omega (arith, low_w, few_too)) in
-      let both = sides_together raws k v w shifts in
+      let both = sides_together side_of raws k v w shifts in
       omega (arith, ints, first, second, both)
 
   cells_shifted : shifted_cells (cells_of problem arc) from to ≡ by_place (settings problem arc.first) (λ v. by_place (settings problem arc.second) ((network_pair shifts k arc).value v))

@@ -13,14 +13,13 @@ use crate::arcs::raw_arcs;
 use crate::cells::{arc_table, shifted};
 use crate::points::point_tables;
 use crate::raw::RawArc;
-use crate::sums::{Rows, shift_sums};
 use crate::switches::switch_tables;
 use std::alloc::{AllocError, Global};
 use vd_base::{Items, Proto};
 use vd_cost_network_prefix::{ArcTable, NetworkTables, SwitchTable};
 use vd_search_tree::Shift;
 use vd_space::Problem;
-use vd_space_tables::{all_protocols, candidates, index_prices, move_prices};
+use vd_space_tables::{Rows, all_protocols, candidates, index_prices, move_prices, shift_sums};
 
 /// Which settings each point may be at: a slot at its candidates, and a switch off or on.
 pub fn settings(

@@ -6,12 +6,10 @@ mod assembly;
 mod cells;
 mod points;
 mod raw;
-mod sums;
 mod switches;
 
 pub use assembly::{all_arcs, most_settings, network_tables, settings};
 pub use cells::{less, value_at};
 pub use points::slot_costs;
 pub use raw::RawArc;
-pub use sums::{Rows, shift_sums};
 pub use switches::switch_tables;

@@ -18,14 +18,13 @@ ghost use Rattle.vd_cost_network_tables.specs.Sources.{AreSettingsOf, AreSumsByP
 use crate::arcs::UNIT;
 use crate::cells::{point_table, value_at};
 use crate::raw::RawArc;
-use crate::sums::{Rows, shift_sums};
 use std::alloc::{AllocError, Global};
 use vd_base::{HostId, Items, Proto, SlotId, is_holder, protocol_at};
 use vd_cost_network_prefix::{PointTable, SwitchTable};
 use vd_search_tree::Shift;
 use vd_space::{Guard, Index, Problem, can_read};
 use vd_space_prefix::amount_at;
-use vd_space_tables::merged_values;
+use vd_space_tables::{Rows, merged_values, shift_sums};
 
 /// Whether the place is not kept at the host, or the host may read the index.
 fn can_host_read(problem: &Problem, list: &[Proto], place: u32, host: HostId, index: SlotId) -> bool
@@ -213,7 +212,7 @@ pub(crate) fn point_tables(
     ensures tables { IfOk result (λ tables. tables ≡ point_tables_of problem.now shifts.now) }
     ensures small { IfOk result AreSmallPoints }
 {
-    let sums = shift_sums(alloc, raws, Rows::Points, settings.len(), most, shifts)?;
+    let sums = shift_sums(alloc, raws, Rows::Ends, settings.len(), most, shifts)?;
     let mut tables = slot_tables(alloc, problem, list, settings, sums.as_slice())?;
     push_switch_tables(alloc, problem, switches, sums.as_slice(), &mut tables)?;
     Ok(tables)

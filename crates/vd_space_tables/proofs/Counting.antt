@@ -14,7 +14,7 @@ use Rattle.vd_space.proofs.Front.{total_ext, total_plus}
 use Rattle.vd_space_prefix.specs.Transfers.{IsWithin, by_place}
 use Rattle.vd_space_prefix.proofs.Front.{at_place, total_more}
 use Rattle.vd_space_tables.specs.declared.space_terms.sums.Rows.{Rows}
-use Rattle.vd_space_tables.specs.declared.space_terms.sums.Rows.TheVariants.{Sources, Targets, Slots}
+use Rattle.vd_space_tables.specs.declared.space_terms.sums.Rows.TheVariants.{Firsts, Seconds, Ends}
 use Rattle.vd_space_tables.specs.Sums.{row_of, part, sums_of}
 use Rattle.vd_space_tables.proofs.SpaceTermsMade.{same_by_place, same_everywhere, set_by_place}
 
@@ -52,56 +52,56 @@ if_within false z is = record { low = omega (arith, ints); high = omega (arith, 
 
 -- ---- one shift more
 
-module _ (uses : List Use) (rows : Rows) where
-  pub part_within : (row place : ℕ) (shift : Shift) → IsWithin 4294967296 (signed shift) → IsWithin 4294967296 (part uses rows row place shift)
-  part_within row place shift low = if_within (option_map_or (λ r. r == row) (row_of uses rows shift) false && shift.proto == place) (signed shift) low
+module _ {X : Type 0} (ends : X → ℕ → ℕ) (items : List X) (rows : Rows) where
+  pub part_within : (row place : ℕ) (shift : Shift) → IsWithin 4294967296 (signed shift) → IsWithin 4294967296 (part ends items rows row place shift)
+  part_within row place shift low = if_within (option_map_or (λ r. r == row) (row_of ends items rows shift) false && shift.proto == place) (signed shift) low
 
   -- what the first i shifts come to
   abbrev so_far : List Shift → ℕ → ℕ → ℕ → ℤ
-  so_far shifts i row place = total (part uses rows row place) (take i shifts)
+  so_far shifts i row place = total (part ends items rows row place) (take i shifts)
 
-  part_of : (row place : ℕ) (shift : Shift) (o : Option ℕ) → row_of uses rows shift ≡ o → part uses rows row place shift ≡ cond (option_map_or (λ r. r == row) o false && shift.proto == place) (signed shift) (pos 0)
+  part_of : (row place : ℕ) (shift : Shift) (o : Option ℕ) → row_of ends items rows shift ≡ o → part ends items rows row place shift ≡ cond (option_map_or (λ r. r == row) o false && shift.proto == place) (signed shift) (pos 0)
   part_of row place shift o is = ap (λ found. cond (option_map_or (λ r. r == row) found false && shift.proto == place) (signed shift) (pos 0)) is
 
-  pub no_row : (row place : ℕ) (shift : Shift) → row_of uses rows shift ≡ None → part uses rows row place shift ≡ pos 0
+  pub no_row : (row place : ℕ) (shift : Shift) → row_of ends items rows shift ≡ None → part ends items rows row place shift ≡ pos 0
   no_row row place shift is = part_of row place shift None is
 
-  counted : (row : ℕ) (shift : Shift) → row_of uses rows shift ≡ Some row → part uses rows row shift.proto shift ≡ signed shift
+  counted : (row : ℕ) (shift : Shift) → row_of ends items rows shift ≡ Some row → part ends items rows row shift.proto shift ≡ signed shift
   counted row shift is =
       part_of row shift.proto shift (Some row) is
       ∙ cond-true (row == row && shift.proto == shift.proto) (signed shift) (pos 0) (both_true (row == row) (shift.proto == shift.proto) (eq-eqb row row refl) (eq-eqb shift.proto shift.proto refl))
 
-  pub other_row : (row other place : ℕ) (shift : Shift) → row_of uses rows shift ≡ Some row → other ≢ row → part uses rows other place shift ≡ pos 0
+  pub other_row : (row other place : ℕ) (shift : Shift) → row_of ends items rows shift ≡ Some row → other ≢ row → part ends items rows other place shift ≡ pos 0
   other_row row other place shift is differs =
       part_of other place shift (Some row) is
       ∙ cond-false (row == other && shift.proto == place) (signed shift) (pos 0) (first_false (row == other) (shift.proto == place) (ne_eqb row other (λ same. differs (sym same))))
 
-  pub other_place : (row place : ℕ) (shift : Shift) → place ≢ shift.proto → part uses rows row place shift ≡ pos 0
+  pub other_place : (row place : ℕ) (shift : Shift) → place ≢ shift.proto → part ends items rows row place shift ≡ pos 0
   other_place row place shift differs =
-      cond-false (option_map_or (λ r. r == row) (row_of uses rows shift) false && shift.proto == place) (signed shift) (pos 0)
-      (second_false (option_map_or (λ r. r == row) (row_of uses rows shift) false) (shift.proto == place) (ne_eqb shift.proto place (λ same. differs (sym same))))
+      cond-false (option_map_or (λ r. r == row) (row_of ends items rows shift) false && shift.proto == place) (signed shift) (pos 0)
+      (second_false (option_map_or (λ r. r == row) (row_of ends items rows shift) false) (shift.proto == place) (ne_eqb shift.proto place (λ same. differs (sym same))))
 
   module _ (count places : ℕ) (shifts : List Shift) where
-    pub none_yet : replicate count (replicate places (pos 0)) ≡ sums_of uses rows count places (take 0 shifts)
+    pub none_yet : replicate count (replicate places (pos 0)) ≡ sums_of ends items rows count places (take 0 shifts)
     none_yet = same_everywhere count (replicate places (pos 0)) ∙ same_by_place count (λ row. replicate places (pos 0)) (λ row. by_place places (so_far shifts 0 row)) (λ row low. same_everywhere places (pos 0))
 
     module _ (i : ℕ) (shift : Shift) (low : i < length shifts) (is : shift ≡ get_or shifts i shift) where
-      more : (row place : ℕ) → so_far shifts (i + 1) row place ≡ so_far shifts i row place +ℤ part uses rows row place shift
-      more row place = total_more (part uses rows row place) shifts i shift (take_more shifts i shift low ∙ ap (λ s. take i shifts ++ s ∷ []) (sym is))
+      more : (row place : ℕ) → so_far shifts (i + 1) row place ≡ so_far shifts i row place +ℤ part ends items rows row place shift
+      more row place = total_more (part ends items rows row place) shifts i shift (take_more shifts i shift low ∙ ap (λ s. take i shifts ++ s ∷ []) (sym is))
 
-      same_more : (row place : ℕ) → part uses rows row place shift ≡ pos 0 → so_far shifts i row place ≡ so_far shifts (i + 1) row place
+      same_more : (row place : ℕ) → part ends items rows row place shift ≡ pos 0 → so_far shifts i row place ≡ so_far shifts (i + 1) row place
       same_more row place none = let step = more row place in omega (arith, ints, step, none)
 
-      pub unchanged : (sums : List (List ℤ)) → sums ≡ sums_of uses rows count places (take i shifts) → ((row place : ℕ) → row < count → place < places → part uses rows row place shift ≡ pos 0) → sums ≡ sums_of uses rows count places (take (i + 1) shifts)
+      pub unchanged : (sums : List (List ℤ)) → sums ≡ sums_of ends items rows count places (take i shifts) → ((row place : ℕ) → row < count → place < places → part ends items rows row place shift ≡ pos 0) → sums ≡ sums_of ends items rows count places (take (i + 1) shifts)
       unchanged sums are none =
           are ∙ same_by_place count (λ row. by_place places (so_far shifts i row)) (λ row. by_place places (so_far shifts (i + 1) row))
           (λ row low_row. same_by_place places (so_far shifts i row) (so_far shifts (i + 1) row) (λ place low_place. same_more row place (none row place low_row low_place)))
 
-      line_at : (sums : List (List ℤ)) (row : ℕ) (line : List ℤ) → sums ≡ sums_of uses rows count places (take i shifts) → row < count → line ≡ get_or sums row line → line ≡ by_place places (so_far shifts i row)
+      line_at : (sums : List (List ℤ)) (row : ℕ) (line : List ℤ) → sums ≡ sums_of ends items rows count places (take i shifts) → row < count → line ≡ get_or sums row line → line ≡ by_place places (so_far shifts i row)
       line_at sums row line are low_row at = at ∙ ap (λ xs. get_or xs row line) are ∙ at_place count (λ r. by_place places (so_far shifts i r)) row line low_row
 
-      pub added : (sums grown : List (List ℤ)) (row : ℕ) (line changed : List ℤ) → sums ≡ sums_of uses rows count places (take i shifts) → row_of uses rows shift ≡ Some row → row < count → shift.proto < places
-          → line ≡ get_or sums row line → changed ≡ set line shift.proto (get_or line shift.proto (pos 0) +ℤ signed shift) → grown ≡ set sums row changed → grown ≡ sums_of uses rows count places (take (i + 1) shifts)
+      pub added : (sums grown : List (List ℤ)) (row : ℕ) (line changed : List ℤ) → sums ≡ sums_of ends items rows count places (take i shifts) → row_of ends items rows shift ≡ Some row → row < count → shift.proto < places
+          → line ≡ get_or sums row line → changed ≡ set line shift.proto (get_or line shift.proto (pos 0) +ℤ signed shift) → grown ≡ set sums row changed → grown ≡ sums_of ends items rows count places (take (i + 1) shifts)
       added sums grown row line changed are is_row low_row low_place at changes grows =
           let line_is = line_at sums row line are low_row at in
           let here : get_or line shift.proto (pos 0) +ℤ signed shift ≡ so_far shifts (i + 1) row shift.proto =
@@ -126,10 +126,10 @@ sides_of : (source : Bool) (at k proto p q : ℕ) (z : ℤ)
 sides_of true at k proto p q z = omega (arith, ints)
 sides_of false at k proto p q z = omega (arith, ints)
 
-pub sides_together : (uses : List Use) (k p q : ℕ) (shifts : List Shift) → total (part uses Sources k p) shifts +ℤ total (part uses Targets k q) shifts ≡ total (use_shift k p q) shifts
-sides_together uses k p q shifts =
-    sym (total_plus (part uses Sources k p) (part uses Targets k q) shifts)
-    ∙ total_ext (λ shift. part uses Sources k p shift +ℤ part uses Targets k q shift) (use_shift k p q) (λ shift. sides_of (shift.side == 0) shift.at k shift.proto p q (signed shift)) shifts
+pub sides_together : {X : Type 0} (ends : X → ℕ → ℕ) (items : List X) (k p q : ℕ) (shifts : List Shift) → total (part ends items Firsts k p) shifts +ℤ total (part ends items Seconds k q) shifts ≡ total (use_shift k p q) shifts
+sides_together ends items k p q shifts =
+    sym (total_plus (part ends items Firsts k p) (part ends items Seconds k q) shifts)
+    ∙ total_ext (λ shift. part ends items Firsts k p shift +ℤ part ends items Seconds k q shift) (use_shift k p q) (λ shift. sides_of (shift.side == 0) shift.at k shift.proto p q (signed shift)) shifts
 
 slot_of : (slot p : ℕ) (shift : Shift) (item : Option Use)
     → cond (option_map_or (λ r. r == slot) (option_map (λ (u : Use). side_of u shift.side) item) false && shift.proto == p) (signed shift) (pos 0)
@@ -137,5 +137,5 @@ slot_of : (slot p : ℕ) (shift : Shift) (item : Option Use)
 slot_of slot p shift None = refl
 slot_of slot p shift (Some u) = refl
 
-pub slots_shifted : (problem : Problem) (slot p : ℕ) (shifts : List Shift) → total (part problem.uses Slots slot p) shifts ≡ total (slot_shift problem slot p) shifts
-slots_shifted problem slot p shifts = total_ext (part problem.uses Slots slot p) (slot_shift problem slot p) (λ shift. slot_of slot p shift (slice_get problem.uses shift.at)) shifts
+pub slots_shifted : (problem : Problem) (slot p : ℕ) (shifts : List Shift) → total (part side_of problem.uses Ends slot p) shifts ≡ total (slot_shift problem slot p) shifts
+slots_shifted problem slot p shifts = total_ext (part side_of problem.uses Ends slot p) (slot_shift problem slot p) (λ shift. slot_of slot p shift (slice_get problem.uses shift.at)) shifts

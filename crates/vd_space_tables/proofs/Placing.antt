@@ -13,7 +13,7 @@ use Rattle.vd_space.specs.Sizes.{IsWithinLimits}
 use Rattle.vd_space.specs.Spaces.{IsProblem, IsUse, IsIndex}
 use Rattle.vd_space.specs.Validity.{protocols}
 use Rattle.vd_space.specs.Costs.{index_term, total}
-use Rattle.vd_space.specs.Bounds.{least_pair, signed, shifted_use, shifted_uses, slot_shift, use_shift}
+use Rattle.vd_space.specs.Bounds.{least_pair, side_of, signed, shifted_use, shifted_uses, slot_shift, use_shift}
 use Rattle.vd_space.proofs.Front.{listed_or_not, each_at}
 use Rattle.vd_space_prefix.specs.declared.transfers.Arc.{Arc}
 use Rattle.vd_space_prefix.specs.Transfers.{IsTransfer, IsWithin, by_place, arc_of, taken}
@@ -21,7 +21,7 @@ use Rattle.vd_space_prefix.specs.Steps.{IsArc, under}
 use Rattle.vd_space_prefix.specs.Tables.{AreListed}
 use Rattle.vd_space_prefix.proofs.Front.{candidates, under_is, at_place, size_by_place}
 use Rattle.vd_space_tables.specs.declared.space_terms.sums.Rows.{Rows}
-use Rattle.vd_space_tables.specs.declared.space_terms.sums.Rows.TheVariants.{Sources, Targets, Slots}
+use Rattle.vd_space_tables.specs.declared.space_terms.sums.Rows.TheVariants.{Firsts, Seconds, Ends}
 use Rattle.vd_space_tables.specs.Arcs.{AreArcsOf, use_transfer, index_transfer, arc_between}
 use Rattle.vd_space_tables.specs.Prices.{candidates_of, moves_of, tells_of}
 use Rattle.vd_space_tables.specs.Sums.{AreSmallShifts, AreSmallSums, part, slot_shifts_of, sums_of}
@@ -41,36 +41,36 @@ whole_within f shifts few small each =
     record { low = omega (arith, ints, low, few); high = omega (arith, ints, high, few) }
 
 -- a row of the table of sums
-pub row_is : (uses own : List Use) (rows : Rows) (count places many : ℕ) (shifts : List Shift) (sums : List (List ℤ)) (r : ℕ) (line d : List ℤ) → uses ≡ own → sums ≡ sums_of uses rows count places shifts → r < count → places ≡ many → line ≡ get_or sums r d
-    → line ≡ by_place many (λ place. total (part own rows r place) shifts)
-row_is uses own rows count places many shifts sums r line d mine are low same at =
+pub row_is : {X : Type 0} (ends : X → ℕ → ℕ) (items own : List X) (rows : Rows) (count places many : ℕ) (shifts : List Shift) (sums : List (List ℤ)) (r : ℕ) (line d : List ℤ) → items ≡ own → sums ≡ sums_of ends items rows count places shifts → r < count → places ≡ many → line ≡ get_or sums r d
+    → line ≡ by_place many (λ place. total (part ends own rows r place) shifts)
+row_is ends items own rows count places many shifts sums r line d mine are low same at =
     at
     ∙ ap (λ xs. get_or xs r d) are
-    ∙ at_place count (λ row. by_place places (λ place. total (part uses rows row place) shifts)) r d low
-    ∙ ap₂ (λ us n. by_place n (λ place. total (part us rows r place) shifts)) mine same
+    ∙ at_place count (λ row. by_place places (λ place. total (part ends items rows row place) shifts)) r d low
+    ∙ ap₂ (λ us n. by_place n (λ place. total (part ends us rows r place) shifts)) mine same
 
 -- an entry of it, in the loop over shifts
-pub here_within : (uses : List Use) (rows : Rows) (count places i : ℕ) (shifts : List Shift) (sums : List (List ℤ)) (row place : ℕ) (line : List ℤ) → length shifts ≤ 131072 → AreSmallShifts (take i shifts)
-    → sums ≡ sums_of uses rows count places (take i shifts) → row < count → place < places → line ≡ get_or sums row line → IsWithin 562949953421312 (get_or line place (pos 0))
-here_within uses rows count places i shifts sums row place line few small are low_row low_place at =
-    let line_is : line ≡ by_place places (λ p. total (part uses rows row p) (take i shifts)) =
-    at ∙ ap (λ xs. get_or xs row line) are ∙ at_place count (λ r. by_place places (λ p. total (part uses rows r p) (take i shifts))) row line low_row in
-    let is = ap (λ xs. get_or xs place (pos 0)) line_is ∙ at_place places (λ p. total (part uses rows row p) (take i shifts)) place (pos 0) low_place in
-    subst (IsWithin 562949953421312) (sym is) (whole_within (part uses rows row place) (take i shifts) (let shorter = no_longer i shifts in omega (arith, shorter, few)) small (part_within uses rows row place))
+pub here_within : {X : Type 0} (ends : X → ℕ → ℕ) (items : List X) (rows : Rows) (count places i : ℕ) (shifts : List Shift) (sums : List (List ℤ)) (row place : ℕ) (line : List ℤ) → length shifts ≤ 131072 → AreSmallShifts (take i shifts)
+    → sums ≡ sums_of ends items rows count places (take i shifts) → row < count → place < places → line ≡ get_or sums row line → IsWithin 562949953421312 (get_or line place (pos 0))
+here_within ends items rows count places i shifts sums row place line few small are low_row low_place at =
+    let line_is : line ≡ by_place places (λ p. total (part ends items rows row p) (take i shifts)) =
+    at ∙ ap (λ xs. get_or xs row line) are ∙ at_place count (λ r. by_place places (λ p. total (part ends items rows r p) (take i shifts))) row line low_row in
+    let is = ap (λ xs. get_or xs place (pos 0)) line_is ∙ at_place places (λ p. total (part ends items rows row p) (take i shifts)) place (pos 0) low_place in
+    subst (IsWithin 562949953421312) (sym is) (whole_within (part ends items rows row place) (take i shifts) (let shorter = no_longer i shifts in omega (arith, shorter, few)) small (part_within ends items rows row place))
 
 -- what shifts put on slots
-pub slot_sums : (problem : Problem) (shifts : List Shift) (places : ℕ) → sums_of problem.uses Slots (length problem.slots) places shifts ≡ slot_shifts_of problem shifts places
+pub slot_sums : (problem : Problem) (shifts : List Shift) (places : ℕ) → sums_of side_of problem.uses Ends (length problem.slots) places shifts ≡ slot_shifts_of problem shifts places
 slot_sums problem shifts places =
-    same_by_place (length problem.slots) (λ slot. by_place places (λ p. total (part problem.uses Slots slot p) shifts)) (λ slot. by_place places (λ p. total (slot_shift problem slot p) shifts))
-    (λ slot low. same_by_place places (λ p. total (part problem.uses Slots slot p) shifts) (λ p. total (slot_shift problem slot p) shifts) (λ p low_p. slots_shifted problem slot p shifts))
+    same_by_place (length problem.slots) (λ slot. by_place places (λ p. total (part side_of problem.uses Ends slot p) shifts)) (λ slot. by_place places (λ p. total (slot_shift problem slot p) shifts))
+    (λ slot low. same_by_place places (λ p. total (part side_of problem.uses Ends slot p) shifts) (λ p. total (slot_shift problem slot p) shifts) (λ p low_p. slots_shifted problem slot p shifts))
 
-pub sums_small : (uses : List Use) (rows : Rows) (count places : ℕ) (shifts : List Shift) → length shifts ≤ 131072 → AreSmallShifts shifts → AreSmallSums (sums_of uses rows count places shifts)
-sums_small uses rows count places shifts few small row place =
-    let line : ℕ → List ℤ = λ r. by_place places (λ p. total (part uses rows r p) shifts) in
+pub sums_small : {X : Type 0} (ends : X → ℕ → ℕ) (items : List X) (rows : Rows) (count places : ℕ) (shifts : List Shift) → length shifts ≤ 131072 → AreSmallShifts shifts → AreSmallSums (sums_of ends items rows count places shifts)
+sums_small ends items rows count places shifts few small row place =
+    let line : ℕ → List ℤ = λ r. by_place places (λ p. total (part ends items rows r p) shifts) in
     elim (listed_or_not count row) [
       | inl low ↦
           subst (λ xs. IsWithin 562949953421312 (get_or xs place (pos 0))) (sym (at_place count line row [] low))
-          (place_within 562949953421312 places (λ p. total (part uses rows row p) shifts) place (λ p low_p. whole_within (part uses rows row p) shifts few small (part_within uses rows row p)))
+          (place_within 562949953421312 places (λ p. total (part ends items rows row p) shifts) place (λ p low_p. whole_within (part ends items rows row p) shifts few small (part_within ends items rows row p)))
       | inr past ↦
           subst (λ xs. IsWithin 562949953421312 (get_or xs place (pos 0))) (sym (get_or_past (by_place count line) row [] (subst (λ n. n ≤ row) (sym (size_by_place count line)) past)))
           (record { low = omega (arith, ints); high = omega (arith, ints) })
@@ -84,23 +84,23 @@ module _ (problem : Problem) (labelled : IsLabelled problem) where
 
   module _ (shifts : List Shift) (few : length shifts ≤ 131072) (small : AreSmallShifts shifts) (k : ℕ) (u : Use) where
     abbrev pub sources : List ℤ
-    sources = by_place many (λ p. total (part problem.uses Sources k p) shifts)
+    sources = by_place many (λ p. total (part side_of problem.uses Firsts k p) shifts)
 
     abbrev pub targets : List ℤ
-    targets = by_place many (λ q. total (part problem.uses Targets k q) shifts)
+    targets = by_place many (λ q. total (part side_of problem.uses Seconds k q) shifts)
 
     taken_is : (p q : ℕ) → p < many → q < many → taken (use_transfer u sources targets) p q ≡ total (use_shift k p q) shifts
     taken_is p q low low_q =
-        let first = at_place many (λ a. total (part problem.uses Sources k a) shifts) p (pos 0) low in
-        let second = at_place many (λ b. total (part problem.uses Targets k b) shifts) q (pos 0) low_q in
-        let both = sides_together problem.uses k p q shifts in
+        let first = at_place many (λ a. total (part side_of problem.uses Firsts k a) shifts) p (pos 0) low in
+        let second = at_place many (λ b. total (part side_of problem.uses Seconds k b) shifts) q (pos 0) low_q in
+        let both = sides_together side_of problem.uses k p q shifts in
         omega (arith, ints, first, second, both)
 
     source_within : (p : ℕ) → IsWithin 562949953421312 (get_or sources p (pos 0))
-    source_within p = place_within 562949953421312 many (λ a. total (part problem.uses Sources k a) shifts) p (λ a low. whole_within (part problem.uses Sources k a) shifts few small (part_within problem.uses Sources k a))
+    source_within p = place_within 562949953421312 many (λ a. total (part side_of problem.uses Firsts k a) shifts) p (λ a low. whole_within (part side_of problem.uses Firsts k a) shifts few small (part_within side_of problem.uses Firsts k a))
 
     target_within : (q : ℕ) → IsWithin 562949953421312 (get_or targets q (pos 0))
-    target_within q = place_within 562949953421312 many (λ b. total (part problem.uses Targets k b) shifts) q (λ b low. whole_within (part problem.uses Targets k b) shifts few small (part_within problem.uses Targets k b))
+    target_within q = place_within 562949953421312 many (λ b. total (part side_of problem.uses Seconds k b) shifts) q (λ b low. whole_within (part side_of problem.uses Seconds k b) shifts few small (part_within side_of problem.uses Seconds k b))
 
     past_is : (f : ℕ → ℤ) (p : ℕ) → many ≤ p → get_or (by_place many f) p (pos 0) ≡ pos 0
     past_is f p past = get_or_past (by_place many f) p (pos 0) (subst (λ n. n ≤ p) (sym (size_by_place many f)) past)
@@ -115,13 +115,13 @@ module _ (problem : Problem) (labelled : IsLabelled problem) where
             let within_high = within.high in
             record { low = omega (arith, ints, is, within_low); high = omega (arith, ints, is, within_high) }
         | inr past ↦
-            let none = past_is (λ b. total (part problem.uses Targets k b) shifts) q past in
+            let none = past_is (λ b. total (part side_of problem.uses Seconds k b) shifts) q past in
             let within_low = (source_within p).low in
             let within_high = (source_within p).high in
             record { low = omega (arith, ints, none, within_low); high = omega (arith, ints, none, within_high) }
       ]
       | inr past ↦
-          let none = past_is (λ a. total (part problem.uses Sources k a) shifts) p past in
+          let none = past_is (λ a. total (part side_of problem.uses Firsts k a) shifts) p past in
           let within_low = (target_within q).low in
           let within_high = (target_within q).high in
           record { low = omega (arith, ints, none, within_low); high = omega (arith, ints, none, within_high) }

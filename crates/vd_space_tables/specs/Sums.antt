@@ -3,27 +3,26 @@ use Rattle.std.specs.Prelude.{ℕ, false, ◌&&◌, ◌==◌, if◌then◌else�
 use Rattle.std.specs.Option.{option_map_or}
 use Rattle.vd_search_tree.specs.declared.shift.Shift.{Shift}
 use Rattle.vd_space.specs.declared.problem.Problem.{Problem}
-use Rattle.vd_space.specs.declared.problem.Use.{Use}
 use Rattle.vd_space.specs.Costs.{total}
-use Rattle.vd_space.specs.Bounds.{side_of, signed, slot_shift}
+use Rattle.vd_space.specs.Bounds.{signed, slot_shift}
 use Rattle.vd_space_prefix.specs.Transfers.{IsWithin, by_place}
 use Rattle.vd_space_prefix.specs.Tables.{gain_at}
 use Rattle.vd_space_tables.specs.declared.space_terms.sums.Rows.{Rows}
-use Rattle.vd_space_tables.specs.declared.space_terms.sums.Rows.TheVariants.{Sources, Targets, Slots}
+use Rattle.vd_space_tables.specs.declared.space_terms.sums.Rows.TheVariants.{Firsts, Seconds, Ends}
 
--- the row in which a shift counts
-abbrev pub row_of : List Use → Rows → Shift → Option ℕ
-row_of uses Sources shift = if shift.side == 0 then Some shift.at else None
-row_of uses Targets shift = if shift.side == 0 then None else Some shift.at
-row_of uses Slots shift = option_map (λ u. side_of u shift.side) (slice_get uses shift.at)
+-- the row in which a shift counts, where `ends` says at which place an item ends on a side
+abbrev pub row_of : {X : Type 0} → (X → ℕ → ℕ) → List X → Rows → Shift → Option ℕ
+row_of ends items Firsts shift = if shift.side == 0 then Some shift.at else None
+row_of ends items Seconds shift = if shift.side == 0 then None else Some shift.at
+row_of ends items Ends shift = option_map (λ item. ends item shift.side) (slice_get items shift.at)
 
 -- what it puts there at a place
-abbrev pub part : List Use → Rows → ℕ → ℕ → Shift → ℤ
-part uses rows row place shift = if option_map_or (λ r. r == row) (row_of uses rows shift) false && shift.proto == place then signed shift else pos 0
+abbrev pub part : {X : Type 0} → (X → ℕ → ℕ) → List X → Rows → ℕ → ℕ → Shift → ℤ
+part ends items rows row place shift = if option_map_or (λ r. r == row) (row_of ends items rows shift) false && shift.proto == place then signed shift else pos 0
 
 -- of so many rows and places
-abbrev pub sums_of : List Use → Rows → ℕ → ℕ → List Shift → List (List ℤ)
-sums_of uses rows count places shifts = by_place count (λ row. by_place places (λ place. total (part uses rows row place) shifts))
+abbrev pub sums_of : {X : Type 0} → (X → ℕ → ℕ) → List X → Rows → ℕ → ℕ → List Shift → List (List ℤ)
+sums_of ends items rows count places shifts = by_place count (λ row. by_place places (λ place. total (part ends items rows row place) shifts))
 
 -- what shifts put on the terms of slots
 abbrev pub slot_shifts_of : Problem → List Shift → ℕ → List (List ℤ)

@@ -14,6 +14,7 @@ mod values;
 
 pub use assembly::{all_protocols, tables};
 pub use space_terms::{
-    candidates, index_arcs, index_prices, move_prices, shifted_use_arcs, slot_shifts, use_arcs,
+    HasEnds, Rows, candidates, index_arcs, index_prices, move_prices, shift_sums, shifted_use_arcs,
+    slot_shifts, use_arcs,
 };
 pub use values::merged_values;

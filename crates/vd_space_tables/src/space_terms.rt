@@ -9,4 +9,4 @@ mod sums;
 pub use arcs::{index_arcs, shifted_use_arcs, use_arcs};
 pub use places::candidates;
 pub use prices::{index_prices, move_prices};
-pub use sums::slot_shifts;
+pub use sums::{HasEnds, Rows, shift_sums, slot_shifts};

@@ -47,8 +47,8 @@ pub fn shifted_use_arcs(
     ensures { IfOk result (AreArcsOf problem.now moves.now (shifted_uses problem.now shifts.now 0 problem.now.uses)) }
 {
     let uses = problem.uses.as_slice();
-    let from = shift_sums(alloc, uses, Rows::Sources, uses.len(), moves.len(), shifts)?;
-    let to = shift_sums(alloc, uses, Rows::Targets, uses.len(), moves.len(), shifts)?;
+    let from = shift_sums(alloc, uses, Rows::Firsts, uses.len(), moves.len(), shifts)?;
+    let to = shift_sums(alloc, uses, Rows::Seconds, uses.len(), moves.len(), shifts)?;
     let mut arcs = Items::new(alloc);
     for (number, item) in uses.iter().enumerate() {
         let from = from[number].as_slice();

@@ -1,7 +1,7 @@
-//! What shifts come to, all together: what they take from the cost of a use on either side, and what they put on the cost of
-//! a slot, by place.
+//! What shifts come to, all together: what they take from the cost of a use or an arc on either side, and what they put on
+//! the cost of a slot or a point, by place.
 
-ghost use Rattle.std.specs.Prelude.{◌≡◌, ◌+ℤ◌, ◌≤◌, ◌<◌, IfOk, length, pos, replicate, slice_index_or, slice_set};
+ghost use Rattle.std.specs.Prelude.{◌≡◌, ◌+ℤ◌, ◌≤◌, ◌<◌, ℕ, IfOk, length, pos, replicate, slice_index_or, slice_set};
 ghost use Rattle.vd_base.specs.Limits.{most_certificate_shifts};
 ghost use Rattle.vd_space_tables.specs.Sums.{AreSmallShifts, AreSmallSums, row_of, slot_shifts_of, sums_of};
 ghost use Rattle.vd_space_prefix.specs.Transfers.{IsWithin};
@@ -12,13 +12,34 @@ use vd_base::Items;
 use vd_search_tree::Shift;
 use vd_space::{Problem, Use};
 
-/// The rows of a table of sums: for each use what is shifted at its source, the same at its target, or for each slot what
-/// is shifted at the uses that it is a side of.
-#[derive(Clone, Copy, PartialEq, Eq)]
-pub(crate) enum Rows {
-    Sources,
-    Targets,
-    Slots,
+/// What has two ends, as a use has slots and an arc has points.
+pub trait HasEnds {
+    ghost ends: { Self → ℕ → ℕ };
+
+    /// The number of its end on a side.
+    fn end_on(&self, side: u8) -> usize
+        ensures { result ≡ ends self.now side };
+}
+
+impl HasEnds for Use {
+    ghost ends = { side_of };
+
+    fn end_on(&self, side: u8) -> usize {
+        if side == 0 {
+            usize::from(self.source.0)
+        } else {
+            usize::from(self.target.0)
+        }
+    }
+}
+
+/// The rows of a table of sums: for each item what is shifted at its first end, the same at its second, or for each end
+/// what is shifted at the items that have it.
+#[derive(Clone, Copy)]
+pub enum Rows {
+    Firsts,
+    Seconds,
+    Ends,
 }
 
 /// What all shifts together put on the term of each slot, by slot and place.
@@ -34,26 +55,26 @@ pub fn slot_shifts(
 {
     let uses = problem.uses.as_slice();
     let slots = problem.slots.as_slice().len();
-    Ok(Items::from_vec(shift_sums(alloc, uses, Rows::Slots, slots, places, shifts)?))
+    Ok(Items::from_vec(shift_sums(alloc, uses, Rows::Ends, slots, places, shifts)?))
 }
 
 /// What the shifts come to in each of so many rows and places.
-pub(crate) fn shift_sums(
+pub fn shift_sums<T: HasEnds>(
     alloc: Global,
-    uses: &[Use],
+    items: &[T],
     rows: Rows,
     count: usize,
     places: usize,
     shifts: &[Shift],
 ) -> Result<Vec<Items<i64>>, AllocError>
     requires few { length shifts.now ≤ most_certificate_shifts }
-    ensures sums { IfOk result (λ sums. sums.items ≡ sums_of uses.now rows count places shifts.now) }
+    ensures sums { IfOk result (λ sums. sums.items ≡ sums_of T.ends items.now rows count places shifts.now) }
     ensures small { IfOk result (λ sums. AreSmallShifts shifts.now) }
 {
     let mut sums = zeros(alloc, count, places)?;
     for shift in shifts {
         let amount = amount_of(shift);
-        if let Some(row) = row_number(uses, rows, shift) {
+        if let Some(row) = row_number(items, rows, shift) {
             let place = usize::from(shift.proto);
             if row < count && place < places {
                 add_at(&mut sums[row], place, amount);
@@ -64,29 +85,18 @@ pub(crate) fn shift_sums(
 }
 
 /// The row in which a shift counts.
-fn row_number(uses: &[Use], rows: Rows, shift: &Shift) -> Option<usize>
-    ensures { result ≡ row_of uses.now rows shift.now }
+fn row_number<T: HasEnds>(items: &[T], rows: Rows, shift: &Shift) -> Option<usize>
+    ensures { result ≡ row_of T.ends items.now rows shift.now }
 {
     let at = shift.at as usize;
     match rows {
-        Rows::Sources => if shift.side == 0 { Some(at) } else { None },
-        Rows::Targets => if shift.side == 0 { None } else { Some(at) },
-        Rows::Slots => uses.get(at).map(|item| slot_on(item, shift.side)),
+        Rows::Firsts => if shift.side == 0 { Some(at) } else { None },
+        Rows::Seconds => if shift.side == 0 { None } else { Some(at) },
+        Rows::Ends => items.get(at).map(|item| item.end_on(shift.side)),
     }
 }
 
-/// The slot on a side of a use.
-fn slot_on(item: &Use, side: u8) -> usize
-    ensures { result ≡ side_of item.now side }
-{
-    if side == 0 {
-        usize::from(item.source.0)
-    } else {
-        usize::from(item.target.0)
-    }
-}
-
-/// What a shift puts on the term of its slot.
+/// What a shift puts on the term of its end.
 fn amount_of(shift: &Shift) -> i64
     ensures amount { result ≡ signed shift.now }
     ensures within { IsWithin 4294967296 result }
@@ -120,9 +130,6 @@ fn zeros(alloc: Global, count: usize, places: usize) -> Result<Vec<Items<i64>>, 
 fn zero_row(alloc: Global, places: usize) -> Result<Items<i64>, AllocError>
     ensures { IfOk result (λ row. row ≡ replicate places (pos 0)) }
 {
-    let mut row = Items::new(alloc);
-    for _ in 0..places {
-        row.push(0)?;
-    }
-    Ok(row)
+    let row = vec![in alloc; 0i64; places]?;
+    Ok(Items::from_vec(row))
 }

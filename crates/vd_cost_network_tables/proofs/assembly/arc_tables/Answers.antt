@@ -9,7 +9,7 @@ use Rattle.vd_space.specs.Arcs.{arcs}
 use Rattle.vd_space.specs.Network.{network_pairs}
 use Rattle.vd_cost_network_prefix.specs.States.{AreSmallArcs}
 use Rattle.vd_cost_network_prefix.proofs.Front.{pairs_size}
-use Rattle.vd_cost_network_tables.specs.declared.sums.Rows.TheVariants.{Firsts, Seconds}
+use Rattle.vd_space_tables.specs.declared.space_terms.sums.Rows.TheVariants.{Firsts, Seconds}
 use Rattle.vd_cost_network_tables.specs.Sums.{part}
 use Rattle.vd_cost_network_tables.specs.Tables.{arc_table, raw_arc, shifted_cells}
 use Rattle.vd_cost_network_tables.proofs.Assembling.{tests_found}

@@ -5,7 +5,7 @@ use Rattle.vd_space.specs.Costs.{total}
 use Rattle.vd_space_prefix.specs.Transfers.{IsWithin, by_place}
 use Rattle.vd_space_prefix.proofs.Front.{total_range_more, size_by_place}
 use Rattle.vd_cost_network_prefix.specs.States.{as_states, arc_part}
-use Rattle.vd_cost_network_tables.specs.declared.sums.Rows.TheVariants.{Firsts, Seconds}
+use Rattle.vd_space_tables.specs.declared.space_terms.sums.Rows.TheVariants.{Firsts, Seconds}
 use Rattle.vd_cost_network_tables.specs.Sums.{part}
 use Rattle.vd_cost_network_tables.specs.Tables.{arc_tables_of}
 use Rattle.vd_cost_network_tables.proofs.Front.{row_is, row_small, raw_light}

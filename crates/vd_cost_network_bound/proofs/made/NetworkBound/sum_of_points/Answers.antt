@@ -6,7 +6,7 @@ use Rattle.vd_space_prefix.specs.Transfers.{by_place}
 use Rattle.vd_space_prefix.proofs.Front.{total_range_more, at_place, size_by_place}
 use Rattle.vd_space_tables.proofs.Front.{get_or_any}
 use Rattle.vd_cost_network_prefix.specs.States.{as_states, count_of_points, point_part}
-use Rattle.vd_cost_network_tables.specs.declared.sums.Rows.TheVariants.{Points}
+use Rattle.vd_space_tables.specs.declared.space_terms.sums.Rows.TheVariants.{Ends}
 use Rattle.vd_cost_network_tables.specs.Sums.{part, sums_of}
 use Rattle.vd_cost_network_tables.specs.Tables.{point_tables_of}
 use Rattle.vd_cost_network_tables.proofs.Front.{row_is, row_small}
@@ -19,7 +19,7 @@ pub index-requires : goal.index-requires
 index-requires c =
     let count = length c.as_slice-count.result.now in
     let same = ap length c.in_ok-sums.ensures.sums in
-    let size = size_by_place count (λ row. by_place c.most_settings-most.result (λ place. total (part c.as_slice-2.result.now Points row place) c.args.shifts.now)) in
+    let size = size_by_place count (λ row. by_place c.most_settings-most.result (λ place. total (part c.as_slice-2.result.now Ends row place) c.args.shifts.now)) in
     omega (arith, same, size)
 
 pub least_of_point-requires-clause-values : goal.least_of_point-requires-clause-values
@@ -40,8 +40,8 @@ least_of_point-requires-clause-amounts c v =
     let shifts = c.args.shifts.now in
     let point = c.loop-point.point in
     let line = c.as_slice-in-loop-point-3.result.now in
-    let is = row_is raws Points (length c.as_slice-count.result.now) most shifts c.in_ok-sums.sums.items point line c.index.result.now c.in_ok-sums.ensures.sums c.loop-point-test.true (c.as_slice-in-loop-point-3.ensures ∙ c.index.ensures) in
-    row_small raws Points most shifts point line c.requires.few c.in_ok-sums.ensures.small is v
+    let is = row_is raws Ends (length c.as_slice-count.result.now) most shifts c.in_ok-sums.sums.items point line c.index.result.now c.in_ok-sums.ensures.sums c.loop-point-test.true (c.as_slice-in-loop-point-3.ensures ∙ c.index.ensures) in
+    row_small raws Ends most shifts point line c.requires.few c.in_ok-sums.ensures.small is v
 
 pub loop-point-preserved : goal.loop-point-preserved
 loop-point-preserved c =
@@ -57,9 +57,9 @@ loop-point-preserved c =
     let own = c.index-as_slice-point.result in
     let count = count_is problem bound c.requires.bound c.as_slice-count.result.now c.as_slice-count.ensures in
     let low : point < count_of_points problem = omega (arith, count) in
-    let sums_are : sums ≡ sums_of raws Points (count_of_points problem) most shifts = c.in_ok-sums.ensures.sums ∙ ap (λ n. sums_of raws Points n most shifts) count in
+    let sums_are : sums ≡ sums_of raws Ends (count_of_points problem) most shifts = c.in_ok-sums.ensures.sums ∙ ap (λ n. sums_of raws Ends n most shifts) count in
     let same = ap length c.in_ok-sums.ensures.sums in
-    let size = size_by_place (length c.as_slice-count.result.now) (λ row. by_place most (λ place. total (part raws Points row place) shifts)) in
+    let size = size_by_place (length c.as_slice-count.result.now) (λ row. by_place most (λ place. total (part raws Ends row place) shifts)) in
     let low_row : point < length sums = omega (arith, same, size) in
     let line_is = c.as_slice-in-loop-point-3.ensures ∙ c.index.ensures ∙ get_or_any sums point c.index.result.now [] low_row in
     let all = c.as_slice-in-loop-point-2.ensures ∙ c.requires.bound.values in

@@ -17,63 +17,62 @@ abbrev none : Shift
 none = record { at = 0; side = 0; proto = 0; add = false; amount = 0 }
 
 pub loop-shift-init : goal.loop-shift-init
-loop-shift-init c = record {
-  sums = c.in_ok-sums.ensures ∙ none_yet c.args.uses.now c.args.rows c.args.count c.args.places c.args.shifts.now;
+loop-shift-init g c = record {
+  sums = c.in_ok-sums.ensures ∙ none_yet g.T.HasEnds.ends c.args.items.now c.args.rows c.args.count c.args.places c.args.shifts.now;
   small = λ k d low. absurd (omega (arith, low));
 }
 
 pub add_at-requires-clause-place : goal.add_at-requires-clause-place
-add_at-requires-clause-place c =
-    let line : ℕ → List ℤ = λ row. by_place c.args.places (λ place. total (part c.args.uses.now c.args.rows row place) (take c.loop-shift.shift-index c.args.shifts.now)) in
+add_at-requires-clause-place g c =
+    let line : ℕ → List ℤ = λ row. by_place c.args.places (λ place. total (part g.T.HasEnds.ends c.args.items.now c.args.rows row place) (take c.loop-shift.shift-index c.args.shifts.now)) in
     let is : c.index_mut.result.now ≡ line c.in-Some.row =
     c.index_mut.ensures.value ∙ ap (λ xs. get_or xs c.in-Some.row c.index_mut.result.now) c.loop-shift.invariant.sums ∙ at_place c.args.count line c.in-Some.row c.index_mut.result.now c.if-row-count.true in
     let same = ap length is in
-    let size = size_by_place c.args.places (λ place. total (part c.args.uses.now c.args.rows c.in-Some.row place) (take c.loop-shift.shift-index c.args.shifts.now)) in
+    let size = size_by_place c.args.places (λ place. total (part g.T.HasEnds.ends c.args.items.now c.args.rows c.in-Some.row place) (take c.loop-shift.shift-index c.args.shifts.now)) in
     let low = c.if-place-places.true in
     omega (arith, same, size, low)
 
 pub add_at-requires-clause-here : goal.add_at-requires-clause-here
-add_at-requires-clause-here c =
-    here_within c.args.uses.now c.args.rows c.args.count c.args.places c.loop-shift.shift-index c.args.shifts.now c.loop-shift.sums.items c.in-Some.row c.from-place.result c.index_mut.result.now
+add_at-requires-clause-here g c =
+    here_within g.T.HasEnds.ends c.args.items.now c.args.rows c.args.count c.args.places c.loop-shift.shift-index c.args.shifts.now c.loop-shift.sums.items c.in-Some.row c.from-place.result c.index_mut.result.now
     c.requires.few c.loop-shift.invariant.small c.loop-shift.invariant.sums c.if-row-count.true c.if-place-places.true c.index_mut.ensures.value
 
-sums_more : (c : goal.Joined-row_number) → c.match-row_number.sums.items ≡ sums_of c.args.uses.now c.args.rows c.args.count c.args.places (take (c.loop-shift.shift-index + 1) c.args.shifts.now)
-sums_more c =
+pub loop-shift-preserved : goal.loop-shift-preserved
+loop-shift-preserved g c =
     let shifts = c.args.shifts.now in
     let i = c.loop-shift.shift-index in
     let low = c.loop-shift-test.true in
     let shift = get_or shifts i none in
     let is : shift ≡ get_or shifts i shift = get_or_any shifts i none shift low in
-    let uses = c.args.uses.now in
+    let ends = g.T.HasEnds.ends in
+    let items = c.args.items.now in
     let rows = c.args.rows in
     let count = c.args.count in
     let places = c.args.places in
+    let more : c.match-row_number.sums.items ≡ sums_of g.T.HasEnds.ends c.args.items.now c.args.rows c.args.count c.args.places (take (c.loop-shift.shift-index + 1) c.args.shifts.now) =
     elim c.match-row_number.branch [
       | in-Some+then-row-count+then-place-places w ↦
           let line = w.index_mut.result.now in
           let place = w.from-place.ensures in
           let amount : to_z w64 (of_z w64 c.amount_of-amount.result) ≡ signed shift = to_z-of_z w64 c.amount_of-amount.result (record { sfits = c.amount_of-amount.type_inv }) ∙ c.amount_of-amount.ensures.amount in
           let changed : w.add_at.new.row ≡ set line shift.proto (get_or line shift.proto (pos 0) +ℤ signed shift) = w.add_at.ensures ∙ (λ j. set line (place j) (get_or line (place j) (pos 0) +ℤ amount j)) in
-          added uses rows count places shifts i shift low is c.loop-shift.sums.items c.match-row_number.sums.items w.in-Some.row line w.add_at.new.row c.loop-shift.invariant.sums (sym c.row_number.ensures ∙ w.in-Some.is)
+          added ends items rows count places shifts i shift low is c.loop-shift.sums.items c.match-row_number.sums.items w.in-Some.row line w.add_at.new.row c.loop-shift.invariant.sums (sym c.row_number.ensures ∙ w.in-Some.is)
           w.if-row-count.true (subst (λ p. p < places) place w.if-place-places.true) w.index_mut.ensures.value changed (ap (λ v. v.items) w.sums-is)
       | in-Some+else-row-count w ↦
           let here = w.in-Some.row in
           let found = sym c.row_number.ensures ∙ w.in-Some.is in
           let place = w.from-place.ensures in
-          let no_part : (r p : ℕ) → r < count → p < places → part uses rows r p shift ≡ pos 0 = λ r p low_r low_p. elim w.else-row-count.either [
-            | inl both ↦ let past = both.1 in other_place uses rows r p shift (λ same. absurd (omega (arith, same, place, past, low_p)))
-            | inr past ↦ other_row uses rows here r p shift found (λ same. absurd (omega (arith, same, past, low_r)))
+          let no_part : (r p : ℕ) → r < count → p < places → part ends items rows r p shift ≡ pos 0 = λ r p low_r low_p. elim w.else-row-count.either [
+            | inl both ↦ let past = both.1 in other_place ends items rows r p shift (λ same. absurd (omega (arith, same, place, past, low_p)))
+            | inr past ↦ other_row ends items rows here r p shift found (λ same. absurd (omega (arith, same, past, low_r)))
           ] in
-          ap (λ v. v.items) w.sums-is ∙ unchanged uses rows count places shifts i shift low is c.loop-shift.sums.items c.loop-shift.invariant.sums no_part
+          ap (λ v. v.items) w.sums-is ∙ unchanged ends items rows count places shifts i shift low is c.loop-shift.sums.items c.loop-shift.invariant.sums no_part
       | in_default w ↦
           let missing = sym c.row_number.ensures ∙ w.in_default.is in
-          ap (λ v. v.items) w.sums-is ∙ unchanged uses rows count places shifts i shift low is c.loop-shift.sums.items c.loop-shift.invariant.sums (λ r p low_r low_p. no_row uses rows r p shift missing)
-    ]
-
-pub loop-shift-preserved : goal.loop-shift-preserved
-loop-shift-preserved c =
+          ap (λ v. v.items) w.sums-is ∙ unchanged ends items rows count places shifts i shift low is c.loop-shift.sums.items c.loop-shift.invariant.sums (λ r p low_r low_p. no_row ends items rows r p shift missing)
+    ] in
     let within : IsWithin 4294967296 (signed (get_or c.args.shifts.now c.loop-shift.shift-index none)) = subst (IsWithin 4294967296) c.amount_of-amount.ensures.amount c.amount_of-amount.ensures.within in
     record {
-      sums = sums_more c;
+      sums = more;
       small = All-more (λ (shift : Shift). IsWithin 4294967296 (signed shift)) c.args.shifts.now c.loop-shift.shift-index none c.loop-shift-test.true c.loop-shift.invariant.small within;
     }
