@@ -25,3 +25,4 @@ mod LaidOut
 mod Tidy
 mod Following
 mod Rounds
+mod Counting

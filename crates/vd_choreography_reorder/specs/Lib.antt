@@ -10,3 +10,4 @@ pub mod Joining
 pub mod Telling
 pub mod LaidOut
 pub mod Following
+pub mod Rooms

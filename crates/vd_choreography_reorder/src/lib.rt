@@ -10,6 +10,7 @@ mod choreography_packets;
 mod laws;
 mod passing;
 mod ranks;
+mod rooms;
 
 pub use choreography_coalescing::{join_packets, joined_code_tells_the_same};
 pub use choreography_following::{followed_code_tells_the_same, words_are_followed};

@@ -246,7 +246,7 @@ fn from_begin(length: u64, further: u64, rank: u64) -> u64
 }
 
 /// The first rank of the next round.
-fn next_round(rank: u64) -> u64
+pub(crate) fn next_round(rank: u64) -> u64
     ensures { result ≡ order.next_round rank }
 {
     rank.max(from_begin(ROUND, ROUND, rank))
