@@ -1,9 +1,15 @@
 -- How many packets each receive of a host may let pass: those of its round that the host sends behind it.
-use Rattle.std.specs.Prelude.{ℕ, ◌+◌, nat_eq, nat_lt, Bool, true, false, if◌then◌else◌, List, [], ◌∷◌}
+use Rattle.std.specs.Prelude.{ℕ, suc, ◌+◌, nat_eq, nat_lt, Bool, true, false, if◌then◌else◌, List, [], ◌∷◌, slice_index}
+use Rattle.vd_execution.specs.Code.{Code}
+use Rattle.vd_execution.specs.Text.{IsCodeOf}
+use Rattle.vd_execution.specs.declared.instructions.Instr.{Instr}
 use Rattle.vd_execution.specs.declared.instructions.Act.{Act}
 use Rattle.vd_execution.specs.declared.instructions.Act.TheVariants as act
 use Rattle.vd_execution.specs.declared.instructions.Line.{Line}
 use Rattle.vd_execution.specs.declared.instructions.Line.TheVariants as line
+use Rattle.vd_reorder.specs.Hastening.{IsHastened}
+use Rattle.vd_reorder.specs.Sending.{sent_first, text_of}
+use Rattle.vd_reorder.specs.declared.sending.Spaced.{Spaced}
 use Rattle.vd_choreography_reorder.specs.declared.ranks.Ranked.{Ranked}
 use Rattle.vd_choreography_reorder.specs.declared.rooms.Ahead.{Ahead}
 use Rattle.vd_choreography_reorder.specs.Ranks.{next_round}
@@ -62,3 +68,23 @@ line_room h (line.End a) n ns = number_if (nat_eq h a.0) 0 ns
 abbrev pub rooms : ℕ → List Ranked → List ℕ
 rooms h [] = []
 rooms h (x ∷ xs) = line_room h x.line (room_for x.rank (ahead h xs)) (rooms h xs)
+
+-- ---- the code of a host, in which sends of a round go first
+
+-- instructions with their rooms, from a place on
+abbrev pub with_rooms : List ℕ → ℕ → List Instr → List Spaced
+with_rooms ns k [] = []
+with_rooms ns k (i ∷ is) = record { room = slice_index ns k; instruction = i } ∷ with_rooms ns (suc k) is
+
+abbrev pub sends_of_rounds_first : ℕ → List Ranked → List Instr → List Instr
+sends_of_rounds_first h list code = text_of (sent_first (with_rooms (rooms h list) 0 code))
+
+-- the new text is that of a code to which exchanges of neighbours lead
+pub record IsOfHastened (code : List Instr) (c : Code) : Type 0 where
+  pub new_code : Code
+  pub nested : IsCodeOf code new_code
+  pub hastened : IsHastened c new_code
+
+-- Whatever the ranks are, it is hastened.
+abbrev pub RoundsAreHastened : Type 0
+RoundsAreHastened = (h : ℕ) (list : List Ranked) (code : List Instr) (c : Code) → IsCodeOf code c → IsOfHastened (sends_of_rounds_first h list code) c

@@ -21,3 +21,4 @@ pub use laws::{
     test_is_sound, worked_lines,
 };
 pub use passing::bring_forward;
+pub use rooms::rounds_are_hastened;

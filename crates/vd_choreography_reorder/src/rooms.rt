@@ -1,14 +1,16 @@
 //! How many packets each receive of a host may let pass: those of its round that the host sends behind it. The lines are read from the end
 //! to the front.
 
-ghost use Rattle.std.specs.Prelude.{◌≡◌, IfOk, OnOk, reverse};
+ghost use Rattle.std.specs.Prelude.{◌≡◌, IfOk, OnOk, reverse, slice_index};
+ghost use Rattle.vd_reorder.specs.Sending as sending;
 ghost use Rattle.vd_choreography_reorder.specs.Rooms as order;
-ghost use Rattle.vd_choreography_reorder.specs.Rooms.{line_room, number_if, rooms};
+ghost use Rattle.vd_choreography_reorder.specs.Rooms.{RoundsAreHastened, line_room, number_if, rooms};
 
 use crate::ranks::{Ranked, next_round};
 use std::alloc::{AllocError, Global};
 use vd_base::{HostId, Items};
-use vd_execution::{Act, Line};
+use vd_execution::{Act, Instr, Line};
+use vd_reorder::{Spaced, send_first};
 
 /// The most packets that may pass a receive.
 const MOST: u32 = 512;
@@ -135,3 +137,57 @@ pub(crate) fn rooms_of(
     numbers.reverse();
     Ok(Items::from_vec(numbers))
 }
+
+/// The number at a place, 0 where there is none.
+fn room_at(rooms: &[u32], place: usize) -> u32
+    ensures { result ≡ slice_index rooms.now place }
+{
+    match rooms.get(place) {
+        Some(room) => *room,
+        None => 0,
+    }
+}
+
+/// Instructions with their rooms.
+#[tactic(auto, using(crate::proofs::Counting::with_rooms_more))]
+fn with_rooms(alloc: Global, rooms: &[u32], code: Items<Instr>) -> Result<Items<Spaced>, AllocError>
+    ensures { IfOk result (λ spaced. spaced ≡ order.with_rooms rooms.now 0 code) }
+{
+    let mut spaced = Items::new(alloc);
+    for instruction in code.into_vec() {
+        let room = room_at(rooms, spaced.as_slice().len());
+        spaced.push(Spaced { room, instruction })?;
+    }
+    Ok(spaced)
+}
+
+/// The instructions without their rooms.
+fn text_of(alloc: Global, spaced: Items<Spaced>) -> Result<Items<Instr>, AllocError>
+    ensures { IfOk result (λ code. code ≡ sending.text_of spaced) }
+{
+    let mut code = Items::new(alloc);
+    for item in spaced.into_vec() {
+        let Spaced { instruction, .. } = item;
+        code.push(instruction)?;
+    }
+    Ok(code)
+}
+
+/// The code of a host, in which packets of a round go before the receives of that round that they stand behind.
+pub(crate) fn sends_of_rounds_first(
+    alloc: Global,
+    list: &[Ranked],
+    host: HostId,
+    code: Items<Instr>,
+) -> Result<Items<Instr>, AllocError>
+    ensures { IfOk result (λ new. new ≡ order.sends_of_rounds_first host.0 list.now code) }
+{
+    let rooms = rooms_of(alloc, list, host)?;
+    let spaced = with_rooms(alloc, rooms.as_slice(), code)?;
+    text_of(alloc, send_first(spaced))
+}
+
+/// In such code neighbours were exchanged that may be: its hosts do what they did.
+pub fn rounds_are_hastened()
+    ensures { RoundsAreHastened }
+{}

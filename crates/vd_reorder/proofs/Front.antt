@@ -12,3 +12,4 @@ pub use Rattle.vd_reorder.proofs.Tidy.{tidy_too}
 pub use Rattle.vd_reorder.proofs.Apart.{act_beside_message, acts_apart, message_beside_act, messages_apart}
 pub use Rattle.vd_reorder.proofs.Own.{acts_at_one}
 pub use Rattle.vd_reorder.proofs.Shown.{shown_beside_act, shown_beside_message}
+pub use Rattle.vd_reorder.proofs.SentFirst.{is_sent_first}
