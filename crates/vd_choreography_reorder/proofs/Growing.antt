@@ -206,13 +206,13 @@ module _ (opens : Bool) (a : ℕ) (said : List Reg) (b : ℕ) (heard : List Reg)
   abbrev pub filled_left : Table
   filled_left = noted (room_column b) heard later words_left
 
-  abbrev awaited : Table
+  abbrev pub awaited : Table
   awaited = raised (telling_place b) later filled_left
 
   abbrev pub packet_after : Table
   packet_after = raised top_place n awaited
 
-  awaited_grows : Grows awaited packet_after
+  pub awaited_grows : Grows awaited packet_after
   awaited_grows = raised_grows top_place n awaited
 
   pub filled_left_grows : Grows filled_left packet_after

@@ -92,7 +92,7 @@ module _ (e : Table) (h : ℕ) (b : Action) where
       still (e (taking_place h)) first (act_rank e h b) (held_there (takes_item (needs b)) (taking_place h) e is)
       (still first (max (max (e floor_place) first) second) (act_rank e h b) (omega arith) over_floor)
 
-  act_telling : not (is_simple b) ≡ true → e (telling_place h) ≤ act_rank e h b
+  pub act_telling : not (is_simple b) ≡ true → e (telling_place h) ≤ act_rank e h b
   act_telling is =
       let first : ℕ = held (takes_item (needs b)) (taking_place h) e in
       let second : ℕ = held (not (is_simple b)) (telling_place h) e in
@@ -129,7 +129,7 @@ module _ (opens : Bool) (e : Table) (c : ℕ) (says : List Reg) (d : ℕ) (hears
       let second : ℕ = held opens (telling_place c) e in
       still (e floor_place) (max (e floor_place) second) (packet_rank opens e c says d hears) (omega arith) over_packet_floor
 
-  packet_telling : opens ≡ true → e (telling_place c) ≤ packet_rank opens e c says d hears
+  pub packet_telling : opens ≡ true → e (telling_place c) ≤ packet_rank opens e c says d hears
   packet_telling is =
       let second : ℕ = held opens (telling_place c) e in
       still (e (telling_place c)) second (packet_rank opens e c says d hears) (held_there opens (telling_place c) e is)

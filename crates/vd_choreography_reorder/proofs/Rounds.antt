@@ -1,28 +1,29 @@
 -- Behind a packet nothing of its round needs it.
 use Rattle.std.proofs.Common.{◌≡◌, ℕ, ◌<◌, ◌≤◌, nat_eq, nat_lt, Bool, true, false, ◌&&◌, ◌||◌, not, if◌then◌else◌, List, [], ◌∷◌, refl, sym, subst, arith}
-use Rattle.std.proofs.lemmas.Bool.{eq-eqb}
+use Rattle.std.proofs.lemmas.Bool.{eq-eqb, eqb-true}
 use Rattle.vd_execution.specs.declared.instructions.Reg.{Reg}
 use Rattle.vd_execution.specs.declared.instructions.Act.{Act}
 use Rattle.vd_execution.specs.declared.instructions.Act.TheVariants as act
 use Rattle.vd_execution.specs.declared.instructions.Line.{Line}
 use Rattle.vd_execution.specs.declared.instructions.Line.TheVariants as line
 use Rattle.vd_execution.specs.Text.{flat}
-use Rattle.vd_reorder.specs.ReorderLawsTesting.{meet, reads, writes}
+use Rattle.vd_reorder.specs.ReorderLawsTesting.{is_simple, meet, reads, writes}
 use Rattle.vd_reorder.specs.Turning.{Turn, Does, Tells}
-use Rattle.vd_choreography_reorder.specs.Testing.{Opened, may_turn, may_pass, stays_behind}
+use Rattle.vd_choreography_reorder.specs.Testing.{Opened, may_turn, may_pass, stays_behind, tells_at}
 use Rattle.vd_choreography_reorder.specs.Passing.{turn_of, passes}
 use Rattle.vd_choreography_reorder.specs.declared.ranks.Ranked.{Ranked}
-use Rattle.vd_choreography_reorder.specs.Ranks.{Table, nothing_left, word_column, room_column, next_round, rank, left, line_rank, line_left, behind_line, ranked}
-use Rattle.vd_choreography_reorder.specs.Sorting.{placed, in_order, LowerOnesPass, AreApart, NeedsNothingOf, LineNeedsNothing, IsOfNoNeed, NoneNeeds, NoneNeedTheRound, RoundsAreApart}
+use Rattle.vd_choreography_reorder.specs.Ranks.{Table, nothing_left, telling_place, word_column, room_column, next_round, rank, left, line_rank, line_left, behind_line, ranked}
+use Rattle.vd_choreography_reorder.specs.Sorting.{placed, in_order, LowerOnesPass, AreApart, NeedsNothingOf, LineNeedsNothing, IsOfNoNeed, NoneNeeds, NoneNeedTheRound, RoundsAreApart, TellsFrom, LineIsAwaited, AllTellLater, EachTellsLater, AnswersComeFirst}
 use Rattle.vd_choreography_reorder.proofs.Sound.{both, is_not, then_not}
-use Rattle.vd_choreography_reorder.proofs.Growing.{Grows, Have, have_grown, noted_have, words_left, filled_left, packet_after, later, sent, words_left_grows, filled_left_grows, line_grows}
-use Rattle.vd_choreography_reorder.proofs.Ranking.{act_reads, act_writes, packet_says, packet_hears, all_between, all_apart}
+use Rattle.vd_choreography_reorder.proofs.Growing.{raised_at, awaited, awaited_grows, Grows, Have, have_grown, noted_have, words_left, filled_left, packet_after, later, sent, words_left_grows, filled_left_grows, line_grows}
+use Rattle.vd_choreography_reorder.proofs.Ranking.{still, act_telling, packet_telling, act_reads, act_writes, packet_says, packet_hears, all_between, all_apart}
 
 -- ---- what a packet leaves at its receiver is of the next round
 
 pub record HeardLeaves (b : ℕ) (heard : List Reg) (m : ℕ) (e : Table) : Type 0 where
   pub words : Have (word_column b) heard m e
   pub filled : Have (room_column b) heard m e
+  pub telling : m ≤ e (telling_place b)
 
 same_le : (n : ℕ) → n ≤ n
 same_le n = omega arith
@@ -31,6 +32,7 @@ heard_grown : (b : ℕ) (heard : List Reg) (m : ℕ) (d e : Table) → Grows d e
 heard_grown b heard m d e g l = record {
   words = have_grown (word_column b) heard m m d e (same_le m) g l.words;
   filled = have_grown (room_column b) heard m m d e (same_le m) g l.filled;
+  telling = still m (d (telling_place b)) (e (telling_place b)) l.telling (g (telling_place b));
 }
 
 packet_heard : (opens : Bool) (a : ℕ) (said : List Reg) (b : ℕ) (heard : List Reg) (n : ℕ) (d : Table)
@@ -43,6 +45,8 @@ packet_heard opens a said b heard n d =
           (noted_have (word_column b) heard m (sent opens a said b heard n d));
       filled = have_grown (room_column b) heard m m (filled_left opens a said b heard n d) after (same_le m) (filled_left_grows opens a said b heard n d)
           (noted_have (room_column b) heard m (words_left opens a said b heard n d));
+      telling = still m (awaited opens a said b heard n d (telling_place b)) (after (telling_place b))
+          (raised_at (telling_place b) m (filled_left opens a said b heard n d)) (awaited_grows opens a said b heard n d (telling_place b));
     }
 
 -- of an act, and of a line
@@ -219,3 +223,50 @@ in_order_none (x ∷ xs) each = placed_none x (in_order xs) (also_in_order x xs 
 pub apart_rounds : RoundsAreApart
 apart_rounds opened j tidy =
     in_order_none (ranked opened nothing_left (flat j [])) (each_pair opened nothing_left (flat j []) (all_apart opened nothing_left (flat j []) (all_between j [] tidy tt)))
+
+-- ---- what a host tells is later than what it awaited
+
+later_told : (opened : Opened) (b : ℕ) (heard : List Reg) (m : ℕ) (e : Table) (y : Turn) → HeardLeaves b heard m e → tells_at opened b y ≡ true → m ≤ rank opened e y
+later_told opened b heard m e (Does g c) l tells =
+    let two = both (nat_eq b g) (not (is_simple c)) tells in
+    still m (e (telling_place g)) (rank opened e (Does g c)) (subst (λ (k : ℕ). m ≤ e (telling_place k)) (eqb-true b g two.0) l.telling) (act_telling e g c two.1)
+later_told opened b heard m e (Tells c says d hears) l tells =
+    let two = both (nat_eq b c) (meet says (opened b)) tells in
+    let same = eqb-true b c two.0 in
+    still m (e (telling_place c)) (rank opened e (Tells c says d hears)) (subst (λ (k : ℕ). m ≤ e (telling_place k)) same l.telling)
+    (packet_telling (meet says (opened c)) e c says d hears (subst (λ (k : ℕ). meet says (opened k) ≡ true) same two.1))
+
+line_told : (opened : Opened) (b : ℕ) (heard : List Reg) (m : ℕ) (e : Table) (l : Line) → HeardLeaves b heard m e
+    → TellsFrom opened b m (record { rank = line_rank opened e l; line = l }) l
+line_told opened b heard m e (line.Act y) hears = later_told opened b heard m e (turn_of y) hears
+line_told opened b heard m e (line.If a g) hears = tt
+line_told opened b heard m e (line.Else a) hears = tt
+line_told opened b heard m e (line.For a r count) hears = tt
+line_told opened b heard m e (line.End a) hears = tt
+
+awaited_line : (opened : Opened) (k l : Line) (m : ℕ) (e : Table) → LineHears k m e → LineIsAwaited opened k m (record { rank = line_rank opened e l; line = l })
+awaited_line opened (line.Act (act.Do h a)) l m e hears = tt
+awaited_line opened (line.Act (act.Msg a said b heard)) l m e hears = line_told opened b.0 heard m e l hears
+awaited_line opened (line.If a g) l m e hears = tt
+awaited_line opened (line.Else a) l m e hears = tt
+awaited_line opened (line.For a r count) l m e hears = tt
+awaited_line opened (line.End a) l m e hears = tt
+
+module _ (opened : Opened) where
+  all_later : (k : Line) (n : ℕ) (e : Table) (ls : List Line) → LineHears k (next_round n) e
+      → AllTellLater opened (record { rank = n; line = k }) (ranked opened e ls)
+  all_later k n e [] hears = tt
+  all_later k n e (l ∷ ls) hears =
+      let d : Table = behind_line opened e l in (
+        awaited_line opened k l (next_round n) e hears,
+        all_later k n d ls (hears_grown k (next_round n) e d (line_grows opened l (line_rank opened e l) e) hears),
+      )
+
+  each_later : (d : Table) (ls : List Line) → EachTellsLater opened (ranked opened d ls)
+  each_later d [] = tt
+  each_later d (l ∷ ls) =
+      let n : ℕ = line_rank opened d l in
+      (all_later l n (behind_line opened d l) ls (line_hears opened l n d), each_later (behind_line opened d l) ls)
+
+pub answers_first : AnswersComeFirst
+answers_first opened lines = each_later opened nothing_left lines

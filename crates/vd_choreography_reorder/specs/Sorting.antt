@@ -11,7 +11,7 @@ use Rattle.vd_execution.specs.Text.{flat}
 use Rattle.vd_reorder.specs.ReorderLawsTesting.{meet, reads, writes}
 use Rattle.vd_reorder.specs.Turning.{Turn, Does, Tells}
 use Rattle.vd_choreography_reorder.specs.declared.ranks.Ranked.{Ranked}
-use Rattle.vd_choreography_reorder.specs.Testing.{Opened, may_pass}
+use Rattle.vd_choreography_reorder.specs.Testing.{Opened, may_pass, tells_at}
 use Rattle.vd_choreography_reorder.specs.Order.{IsBroughtForward}
 use Rattle.vd_choreography_reorder.specs.Passing.{passes, turn_of}
 use Rattle.vd_choreography_reorder.specs.Ranks.{nothing_left, next_round, ranked, lines_of}
@@ -99,6 +99,39 @@ NoneNeedTheRound (x ∷ xs) = NoneNeeds x xs × NoneNeedTheRound xs
 -- In the order of the pass nothing that stands behind a packet in its round needs it.
 abbrev pub RoundsAreApart : Type 0
 RoundsAreApart = (opened : Opened) (j : Joint) → IsTidy j → NoneNeedTheRound (in_order (ranked opened nothing_left (flat j [])))
+
+-- ---- and tells nothing in the round of what it awaited before
+
+-- where a host tells by a line of a rank, that is at least another
+abbrev pub TellsFrom : Opened → ℕ → ℕ → Ranked → Line → Type 0
+TellsFrom opened h least y (line.Act x) = tells_at opened h (turn_of x) ≡ true → least ≤ y.rank
+TellsFrom opened h least y (line.If a g) = Unit {0}
+TellsFrom opened h least y (line.Else a) = Unit {0}
+TellsFrom opened h least y (line.For a r count) = Unit {0}
+TellsFrom opened h least y (line.End a) = Unit {0}
+
+abbrev pub ActIsAwaited : Opened → Act → ℕ → Ranked → Type 0
+ActIsAwaited opened (act.Do h a) least y = Unit {0}
+ActIsAwaited opened (act.Msg a said b heard) least y = TellsFrom opened b.0 least y y.line
+
+abbrev pub LineIsAwaited : Opened → Line → ℕ → Ranked → Type 0
+LineIsAwaited opened (line.Act x) least y = ActIsAwaited opened x least y
+LineIsAwaited opened (line.If a g) least y = Unit {0}
+LineIsAwaited opened (line.Else a) least y = Unit {0}
+LineIsAwaited opened (line.For a r count) least y = Unit {0}
+LineIsAwaited opened (line.End a) least y = Unit {0}
+
+abbrev pub AllTellLater : Opened → Ranked → List Ranked → Type 0
+AllTellLater opened x [] = Unit {0}
+AllTellLater opened x (y ∷ ys) = LineIsAwaited opened x.line (next_round x.rank) y × AllTellLater opened x ys
+
+abbrev pub EachTellsLater : Opened → List Ranked → Type 0
+EachTellsLater opened [] = Unit {0}
+EachTellsLater opened (x ∷ xs) = AllTellLater opened x xs × EachTellsLater opened xs
+
+-- What a host compares, prints and opens is in a later round than what it awaited before in the text.
+abbrev pub AnswersComeFirst : Type 0
+AnswersComeFirst = (opened : Opened) (lines : List Line) → EachTellsLater opened (ranked opened nothing_left lines)
 
 -- Tidy code in this order tells the same.
 abbrev pub SortedCodeIsBroughtForward : Type 0

@@ -3,7 +3,7 @@
 ghost use Rattle.vd_choreography_reorder.specs.Examples.{DrawnWordsAreToldFirst, OpenedWordsStay, WordsGoSideBySide};
 ghost use Rattle.vd_choreography_reorder.specs.Order.{CodeThatIsBroughtForwardRunsOn, OrderIsKept};
 ghost use Rattle.vd_choreography_reorder.specs.Passing.{ArrangedLinesAreBroughtForward};
-ghost use Rattle.vd_choreography_reorder.specs.Sorting.{LinesStandByRank, RanksAreApart, RoundsAreApart, SortedCodeIsBroughtForward};
+ghost use Rattle.vd_choreography_reorder.specs.Sorting.{AnswersComeFirst, LinesStandByRank, RanksAreApart, RoundsAreApart, SortedCodeIsBroughtForward};
 ghost use Rattle.vd_choreography_reorder.specs.Testing.{TestIsSound};
 
 /// The test by registers and lists says yes only where neighbours in joint code may be exchanged.
@@ -38,6 +38,12 @@ pub fn ranks_are_apart()
 /// awaits any packet of it.
 pub fn rounds_are_apart()
     ensures { RoundsAreApart }
+{}
+
+/// What a host compares, prints and opens ranks in a later round than what it awaited before in the text: so nothing of it is among what
+/// goes first in a round.
+pub fn answers_come_first()
+    ensures { AnswersComeFirst }
 {}
 
 /// Worked lines: masked words of two gadgets go side by side, a drawn word is told before it is used, and a word that is opened stays

@@ -17,8 +17,8 @@ pub use choreography_following::{followed_code_tells_the_same, words_are_followe
 pub use choreography_laid_out::laid_out_code_does_the_same;
 pub use choreography_packets::{nothing_is_told_earlier, packets_are_kept};
 pub use laws::{
-    order_is_kept, order_is_sorted, passes_bring_forward, ranks_are_apart, rounds_are_apart,
-    test_is_sound, worked_lines,
+    answers_come_first, order_is_kept, order_is_sorted, passes_bring_forward, ranks_are_apart,
+    rounds_are_apart, test_is_sound, worked_lines,
 };
 pub use passing::bring_forward;
 pub use rooms::rounds_are_hastened;
