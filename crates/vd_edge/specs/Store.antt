@@ -15,6 +15,12 @@ is_replaced standing.Nothing = true
 is_replaced (standing.Plain mode) = true
 is_replaced standing.Special = false
 
+-- whether something stands there
+abbrev pub stands : Standing → Bool
+stands standing.Nothing = false
+stands (standing.Plain mode) = true
+stands standing.Special = true
+
 -- a deal, by its first bytes
 abbrev pub is_deal : List ℕ → Bool
 is_deal bytes = starts_with nat_eq bytes (codes "viaduct-deal ")

@@ -1,5 +1,5 @@
 ghost use Rattle.std.specs.Prelude.{◌≡◌, ℕ, Bool, IsTrue, List, Option, None, Some, false, take, IfOk, OnOk, OnErr, IfSome, is_some, ⊤};
-ghost use Rattle.vd_edge.specs.Store.{Moves, Same, SameElse, is_replaced};
+ghost use Rattle.vd_edge.specs.Store.{Moves, Same, SameElse, is_replaced, stands};
 
 use crate::files::read_front;
 use crate::standing::made_mode;
@@ -53,7 +53,8 @@ pub trait Directory {
 
     /// What stands at a name. A plain file that may not be written is an error.
     fn standing(&self, name: &str) -> io::Result<Standing>
-        ensures { IfOk result (λ standing. IsTrue tells → replaces self.now name.now ≡ is_replaced standing) };
+        ensures replaced { IfOk result (λ standing. IsTrue tells → replaces self.now name.now ≡ is_replaced standing) }
+        ensures held { IfOk result (λ standing. IsTrue tells → is_some (holds self.now name.now) ≡ stands standing) };
 
     /// Puts all these bytes at a name, in place of what stood there.
     fn write(&mut self, name: &str, bytes: &[u8]) -> io::Result<()>

@@ -1,5 +1,5 @@
 -- What marks over a directory tell, and what stands in the directory.
-use Rattle.std.specs.Prelude.{◌≡◌, ◌≢◌, ℕ, Bool, true, false, IsTrue, List, [], Option, None, Some, Result, Ok, IfOk, IfSome, OnErr, OnOk}
+use Rattle.std.specs.Prelude.{◌≡◌, ◌≢◌, ◌||◌, ℕ, Bool, true, false, IsTrue, List, [], Option, None, Some, Result, Ok, IfOk, IfSome, OnErr, OnOk, is_some}
 use Rattle.std.specs.Str.{bytes_eq}
 use Rattle.vd_base.specs.declared.faults.CallFault.{CallFault}
 use Rattle.vd_outside.specs.Files.{Contents}
@@ -31,6 +31,11 @@ pub record ClaimsFiles {E : Type 0} (far : Option (List ℕ)) (near bytes : List
   pub free : IfOk result (λ new. IsTrue new → IsFree before near × IfSome far (IsFree before))
   pub made : IfOk result (λ new. IsTrue new → (now near ≡ Some bytes) × IfSome far (λ place. now place ≡ Some bytes))
   pub stay : StayBoth far near before now
+
+-- whether something stands at one of the places of a mark
+abbrev pub is_marked : (far : Option (List ℕ)) → (near : List ℕ) → Contents → Bool
+is_marked None near holds = is_some (holds near)
+is_marked (Some far) near holds = is_some (holds far) || is_some (holds near)
 
 -- Both are gone, and all stands as it stood elsewhere.
 pub record ReleasesFiles {T E : Type 0} (far : Option (List ℕ)) (near : List ℕ) (before now : Contents) (result : Result T E) : Type 0 where

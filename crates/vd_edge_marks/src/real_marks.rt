@@ -1,16 +1,16 @@
 //! Marks as files of a directory.
 
-ghost use Rattle.std.specs.Prelude.{◌≡◌, IsTrue, None, OnErr, Some, false, IfOk, option_map, string_bytes};
+ghost use Rattle.std.specs.Prelude.{◌≡◌, IsTrue, None, OnErr, Some, false, IfOk, is_some, option_map, string_bytes};
 ghost use Rattle.vd_edge.specs.Store.{Same, SameElse};
-ghost use Rattle.vd_outside.specs.Marks.{Claims, Draws, Releases, Stays};
+ghost use Rattle.vd_outside.specs.Marks.{Claims, Draws, Looks, Releases, Stays};
 ghost use Rattle.vd_outside.specs.Places.{mark_at};
-ghost use Rattle.vd_edge_marks.specs.Views.{ClaimsFiles, ReleasesFiles, far_of, marks_view};
+ghost use Rattle.vd_edge_marks.specs.Views.{ClaimsFiles, ReleasesFiles, far_of, is_marked, marks_view};
 
 use crate::randomness::Randomness;
 use std::alloc::Global;
 use std::io::{self, Error, ErrorKind};
 use vd_base::CallFault;
-use vd_edge::{Access, Directory, count_fault, fault_of, reason_of};
+use vd_edge::{Access, Directory, Standing, count_fault, fault_of, reason_of};
 use vd_outside::{Marks, mark_at};
 
 /// Marks as files of a directory, which only their owner may read, and the random bytes that a source gives. A mark stands beside the
@@ -139,6 +139,39 @@ fn claim_files<D: Directory>(
     }
 }
 
+/// Whether something stands at a place.
+fn is_held<D: Directory>(directory: &D, place: &str) -> io::Result<bool>
+    ensures { IfOk result (λ held. IsTrue D.tells → held ≡ is_some (D.holds directory.now place.now)) }
+{
+    match directory.standing(place)? {
+        Standing::Nothing => Ok(false),
+        Standing::Plain(_) | Standing::Special => Ok(true),
+    }
+}
+
+/// Whether a mark stands beside a file, or in the user's folder for all marks, where there is one.
+fn find_files<D: Directory>(
+    directory: &D,
+    alloc: Global,
+    home: &Option<String>,
+    beside: &str,
+    name: &[u8],
+) -> io::Result<bool>
+    ensures { IfOk result (λ found. IsTrue D.tells →
+        found ≡ is_marked (far_of (option_map string_bytes home.now) name.now) (mark_at beside.now name.now) (D.holds directory.now)) }
+{
+    let near = place_of(alloc, beside, name)?;
+    match far_of(alloc, home, name)? {
+        None => is_held(directory, near.as_str()),
+        Some(far) => {
+            if is_held(directory, far.as_str())? {
+                return Ok(true);
+            }
+            is_held(directory, near.as_str())
+        }
+    }
+}
+
 /// Removes a mark, the one in the folder for all marks first.
 fn release_files<D: Directory>(
     directory: &mut D,
@@ -197,6 +230,24 @@ impl<D: Directory + Drop, R: Randomness + Drop> Marks for RealMarks<D, R> {
             Ok(new) => Ok(new),
             Err(error) => {
                 self.reason = reason_of(self.alloc, "mark", beside, &error);
+                let fault = fault_of(&error);
+                count_fault(&mut self.faults, fault);
+                Err(fault)
+            }
+        }
+    }
+
+    fn is_taken(&mut self, beside: &str, name: &[u8]) -> Result<bool, CallFault>
+        ensures looks { Looks beside.now name.now (marks_view self.old.faults) (marks_view self.new.faults) result }
+        ensures files { IfOk result (λ found. IsTrue D.tells → found ≡ is_marked (far_of (option_map string_bytes self.old.home) name.now)
+            (mark_at beside.now name.now) (D.holds self.old.directory)) }
+        ensures same { self.new.directory ≡ self.old.directory }
+        ensures home { self.new.home ≡ self.old.home }
+    {
+        match find_files(&self.directory, self.alloc, &self.home, beside, name) {
+            Ok(found) => Ok(found),
+            Err(error) => {
+                self.reason = reason_of(self.alloc, "look for the mark of", beside, &error);
                 let fault = fault_of(&error);
                 count_fault(&mut self.faults, fault);
                 Err(fault)

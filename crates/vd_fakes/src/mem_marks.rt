@@ -4,7 +4,7 @@ ghost use Rattle.std.specs.Prelude.{◌≡◌, [], Some, None, IfOk, OnOk, OnErr
 ghost use Rattle.vd_outside.specs.Causes.{asked_after};
 ghost use Rattle.vd_outside.specs.Files.{with_content};
 ghost use Rattle.vd_fakes.specs.Failing.{FailsAsTold, ReleaseFailsAsListed, StoreFailsAsListed, failures_at};
-ghost use Rattle.vd_outside.specs.Marks.{Claims, Draws, Releases};
+ghost use Rattle.vd_outside.specs.Marks.{Claims, Draws, Looks, Releases};
 ghost use Rattle.vd_fakes.specs.MemMarks.{DrawFailsAsListed, marks_view, taken_of};
 ghost use Rattle.vd_outside.specs.Places.{mark_at};
 ghost use Rattle.vd_outside.specs.declared.outside_marks.marks.MarksCall.TheVariants.{Release};
@@ -153,6 +153,21 @@ impl Marks for MemMarks {
             return Err(error.into());
         }
         Ok(true)
+    }
+
+    fn is_taken(&mut self, beside: &str, name: &[u8]) -> Result<bool, CallFault>
+        ensures looks { Looks beside.now name.now (marks_view self.old) (marks_view self.new) result }
+        ensures listed { StoreFailsAsListed self.old.failures result self.new.failures }
+    {
+        let fails = self.failures.next_fails();
+        let place = mark_at(self.alloc, beside, name)?;
+        let found = is_taken(self.marks.as_slice(), place.as_slice());
+        self.asked.push(MarksCall::Look(place))?;
+        if fails {
+            self.failures.count_fault();
+            return Err(CallFault::Failed);
+        }
+        Ok(found)
     }
 
     fn release(&mut self, beside: &str, name: &[u8]) -> Result<(), CallFault>

@@ -1,5 +1,5 @@
 -- What marks tell, and what each call changes of it. Marks stand in the folders of files.
-use Rattle.std.specs.Prelude.{◌≡◌, ◌≢◌, ◌≤◌, ℕ, Bool, true, false, IsTrue, List, ◌∷◌, length, Some, None, Result, IfOk, IfErr, OnOk, OnErr, IsErrOf}
+use Rattle.std.specs.Prelude.{◌≡◌, ◌≢◌, ◌≤◌, ℕ, Bool, true, false, IsTrue, List, ◌∷◌, length, Some, None, is_some, Result, IfOk, IfErr, OnOk, OnErr, IsErrOf}
 use Rattle.std.specs.Str.{bytes_eq}
 use Rattle.vd_base.specs.declared.faults.CallFault.{CallFault}
 use Rattle.vd_base.specs.declared.faults.CallFault.TheVariants as call_fault
@@ -7,7 +7,7 @@ use Rattle.vd_outside.specs.Causes.{Rose, asked_after}
 use Rattle.vd_outside.specs.Files.{Contents, with_content}
 use Rattle.vd_outside.specs.Places.{mark_at}
 use Rattle.vd_outside.specs.declared.outside_marks.marks.MarksCall.{MarksCall}
-use Rattle.vd_outside.specs.declared.outside_marks.marks.MarksCall.TheVariants.{Draw, Claim, Release}
+use Rattle.vd_outside.specs.declared.outside_marks.marks.MarksCall.TheVariants.{Draw, Claim, Look, Release}
 
 -- If they tell it: the names that are taken, with their bytes, the draws that are still to come, and the calls that were asked. And
 -- how often they have failed.
@@ -47,6 +47,16 @@ pub record Claims (beside name bytes : List ℕ) (before now : MarksView) (resul
   pub takes : IsTrue before.told → IfOk result (Takes (mark_at beside name) bytes before.taken now.taken)
   pub stays : IsTrue before.told → IfErr result (λ fault. Stays (mark_at beside name) before.taken now.taken)
   pub memory : IsTrue before.told → IsErrOf result call_fault.Memory → now.taken ≡ before.taken
+
+-- What stands at all names stays, and it is told whether something stands at this one.
+pub record Looks (beside name : List ℕ) (before now : MarksView) (result : Result Bool CallFault) : Type 0 where
+  pub later : before.faults ≤ now.faults
+  pub failed : IsErrOf result call_fault.Failed → Rose before.faults now.faults
+  pub still_told : IsTrue before.told → IsTrue now.told
+  pub asked : IsTrue before.told → now.asked ≡ asked_after before.asked (Look (mark_at beside name)) result
+  pub draws : IsTrue before.told → now.draws ≡ before.draws
+  pub taken : IsTrue before.told → now.taken ≡ before.taken
+  pub found : IsTrue before.told → IfOk result (λ found. found ≡ is_some (before.taken (mark_at beside name)))
 
 -- Where the name is not made free, that is counted as a fault, also where memory ran out. What stands at other names stays.
 pub record Releases {T : Type 0} (beside name : List ℕ) (before now : MarksView) (result : Result T CallFault) : Type 0 where

@@ -77,6 +77,11 @@ fn print_marks_call<W: Write>(to: &mut W, call: &MarksCall) -> io::Result<()> {
             to.write_all(place.as_slice())?;
             to.write_all(b"\n")
         }
+        MarksCall::Look(place) => {
+            to.write_all(b"look ")?;
+            to.write_all(place.as_slice())?;
+            to.write_all(b"\n")
+        }
         MarksCall::Release(place) => {
             to.write_all(b"release ")?;
             to.write_all(place.as_slice())?;

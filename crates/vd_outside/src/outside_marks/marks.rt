@@ -1,5 +1,5 @@
 ghost use Rattle.std.specs.Prelude.{◌≡◌};
-ghost use Rattle.vd_outside.specs.Marks.{Claims, Draws, MarksView, Releases};
+ghost use Rattle.vd_outside.specs.Marks.{Claims, Draws, Looks, MarksView, Releases};
 
 use vd_base::{Bytes, CallFault};
 
@@ -8,6 +8,7 @@ use vd_base::{Bytes, CallFault};
 pub enum MarksCall {
     Draw,
     Claim(Bytes),
+    Look(Bytes),
     Release(Bytes),
 }
 
@@ -28,6 +29,10 @@ pub trait Marks {
     /// What is taken stays as it is, whatever comes of the call.
     fn claim(&mut self, beside: &str, name: &[u8], bytes: &[u8]) -> Result<bool, CallFault>
         ensures { Claims beside.now name.now bytes.now (view self.old) (view self.new) result };
+
+    /// Whether a name in the folder of a file is taken. Nothing is taken or made free by it.
+    fn is_taken(&mut self, beside: &str, name: &[u8]) -> Result<bool, CallFault>
+        ensures { Looks beside.now name.now (view self.old) (view self.new) result };
 
     /// Makes a name in the folder of a file free again. Where that is not done it is a fault, also for want of memory.
     fn release(&mut self, beside: &str, name: &[u8]) -> Result<(), CallFault>
