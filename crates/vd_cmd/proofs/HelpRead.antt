@@ -14,6 +14,7 @@ help_read = record {
   needs_each = λ a. refl;
   hasten = λ a b. refl;
   host = λ a b c d. refl;
+  check = λ a b c. refl;
   certify = λ a b. refl;
   depends = λ a b. refl;
   influences = λ a b. refl;

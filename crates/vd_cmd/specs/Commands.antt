@@ -6,7 +6,7 @@ use Rattle.vd_tape.specs.declared.deal_items.deal.Counts.{Counts}
 use Rattle.vd_gen.specs.Sizes.{most_coordinates}
 use Rattle.vd_cmd.specs.Numbers.{number_within}
 use Rattle.vd_cmd.specs.declared.command.Command.{Command}
-use Rattle.vd_cmd.specs.declared.command.Command.TheVariants.{OnFiles, KeyDeal, Early, Host, Run}
+use Rattle.vd_cmd.specs.declared.command.Command.TheVariants.{OnFiles, KeyDeal, Early, Host, Check, Run}
 use Rattle.vd_cmd.specs.declared.command.KeySource.{KeySource}
 use Rattle.vd_cmd.specs.declared.command.KeySource.TheVariants.{Drawn, InFile}
 use Rattle.vd_cmd.specs.declared.command.FilesCommand.{FilesCommand}
@@ -146,9 +146,10 @@ fixed_form_of (word ∷ source ∷ other ∷ []) =
     else if bytes_eq word (codes "compile") then compile_of source other (Some most_search_budget)
     else if bytes_eq word (codes "needs") then needs_with source other
     else None
-fixed_form_of (word ∷ source ∷ prefix ∷ budget ∷ []) =
-    if bytes_eq word (codes "compile") then compile_with source prefix budget
-    else if bytes_eq word (codes "needs") && bytes_eq prefix (codes "each") then needs_of source true (number_within 1 most_search_budget budget)
+fixed_form_of (word ∷ first ∷ second ∷ third ∷ []) =
+    if bytes_eq word (codes "compile") then compile_with first second third
+    else if bytes_eq word (codes "check") then Some (Check (record { program = first; inputs = second; deal = third }))
+    else if bytes_eq word (codes "needs") && bytes_eq second (codes "each") then needs_of first true (number_within 1 most_search_budget third)
     else None
 fixed_form_of (word ∷ source ∷ inputs ∷ prefix ∷ schedule ∷ []) =
     if bytes_eq word (codes "replay") then replay_of source inputs prefix schedule false (Some most_search_budget)
@@ -241,6 +242,7 @@ KeepsLimits (OnFiles command) = KeepsFilesLimits command
 KeepsLimits (KeyDeal words) = AreWithin words.counts
 KeepsLimits (Early words) = IsBudget words.budget
 KeepsLimits (Host words) = IfSome words.limit IsWait
+KeepsLimits (Check words) = Unit {0}
 KeepsLimits (Run words) = IsPort words.port
 
 -- The answer to words of this form: the command, and a fault of usage exactly where there is none.

@@ -2,7 +2,7 @@
 use Rattle.std.specs.Prelude.{◌≡◌, ℕ, true, false, List, [], ◌∷◌, Some, None, codes}
 use Rattle.vd_base.specs.Limits.{most_search_budget}
 use Rattle.vd_cmd.specs.Commands.{form_of}
-use Rattle.vd_cmd.specs.declared.command.Command.TheVariants.{OnFiles, Early, Host}
+use Rattle.vd_cmd.specs.declared.command.Command.TheVariants.{OnFiles, Early, Host, Check}
 use Rattle.vd_cmd.specs.declared.command.FilesCommand.{FilesCommand}
 use Rattle.vd_cmd.specs.declared.command.FilesCommand.TheVariants.{Clear, Labels, Choose, Draw, Certify, Compile, Needs, Hasten, Replay, Excuse, Depends, Influences}
 
@@ -26,6 +26,8 @@ pub record HelpIsRead : Type 0 where
   pub hasten : (program out : List ℕ) → AreRead (codes "hasten" ∷ program ∷ out ∷ []) (Hasten program out)
   pub host : (program inputs deal : List ℕ) (addresses : List (List ℕ)) → form_of (codes "host" ∷ program ∷ inputs ∷ deal ∷ addresses)
       ≡ Some (Host (record { program = program; inputs = inputs; deal = deal; addresses = addresses; limit = None }))
+  pub check : (program inputs deal : List ℕ) → form_of (codes "check" ∷ program ∷ inputs ∷ deal ∷ [])
+      ≡ Some (Check (record { program = program; inputs = inputs; deal = deal }))
   pub certify : (source cert : List ℕ) → AreRead (codes "certify" ∷ source ∷ cert ∷ []) (Certify source cert)
   pub depends : (source host : List ℕ) → AreRead (codes "depends" ∷ source ∷ host ∷ []) (Depends source host)
   pub influences : (source host : List ℕ) → AreRead (codes "influences" ∷ source ∷ host ∷ []) (Influences source host)

@@ -54,6 +54,14 @@ pub struct HostWords {
     pub limit: Option<u32>,
 }
 
+/// The words of `check PROGRAM INPUTS DEAL`: the three files of a host.
+#[derive(Drop)]
+pub struct CheckWords {
+    pub program: Text,
+    pub inputs: Text,
+    pub deal: Text,
+}
+
 /// The words of `run SOURCE INPUTS PREFIX SELF PORT`.
 #[derive(Drop)]
 pub struct RunWords {
@@ -144,6 +152,8 @@ pub enum Command {
     Early(EarlyWords),
     /// `host PROGRAM INPUTS DEAL ADDR*`, or `host-within SECONDS PROGRAM INPUTS DEAL ADDR*`.
     Host(HostWords),
+    /// `check PROGRAM INPUTS DEAL`.
+    Check(CheckWords),
     /// `run SOURCE INPUTS PREFIX SELF PORT`.
     Run(RunWords),
 }

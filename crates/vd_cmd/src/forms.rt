@@ -2,13 +2,13 @@
 
 ghost use Rattle.std.specs.Prelude.{◌≡◌, Some, IfOk, IfSome};
 ghost use Rattle.vd_cmd.specs.Commands.{Reads, AreWithin, IsBudget, IsPort, IsSize, choose_of, compile_of, deal_of, draw_of, early_of, excuse_of, gen_of, key_deal_of, needs_of, replay_of, run_of, trial_of};
-ghost use Rattle.vd_cmd.specs.declared.command.Command.TheVariants.{OnFiles};
+ghost use Rattle.vd_cmd.specs.declared.command.Command.TheVariants.{Check, OnFiles};
 ghost use Rattle.vd_cmd.specs.declared.command.FilesCommand.TheVariants.{Clear, Certify, Hasten, Depends, Influences};
 ghost use Rattle.vd_cmd.specs.declared.command.KeySource.TheVariants.{Drawn, InFile};
 
 use crate::command::{
-    Command, CommandFault, EarlyWords, ExcuseWords, FilesCommand, KeyDealWords, KeySource,
-    NeedsWords, ReplayWords, RunWords,
+    CheckWords, Command, CommandFault, EarlyWords, ExcuseWords, FilesCommand, KeyDealWords,
+    KeySource, NeedsWords, ReplayWords, RunWords,
 };
 use std::alloc::{AllocError, Global};
 use vd_base::Text;
@@ -404,4 +404,22 @@ pub(crate) fn influences_of(
 {
     let (source, host) = both(alloc, source, host)?;
     Ok(Command::OnFiles(FilesCommand::Influences(source, host)))
+}
+
+/// The command `check` of these files.
+pub(crate) fn check_of(
+    alloc: Global,
+    program: &Text,
+    inputs: &Text,
+    deal: &Text,
+) -> Result<Command, CommandFault>
+    ensures { Reads (Some (Check (record { program = program.now; inputs = inputs.now; deal = deal.now }))) result }
+{
+    let (program, inputs) = both(alloc, program, inputs)?;
+    let deal = Text::copy_of(alloc, deal.as_str())?;
+    Ok(Command::Check(CheckWords {
+        program,
+        inputs,
+        deal,
+    }))
 }

@@ -2,7 +2,7 @@
 
 ghost use Rattle.std.specs.Prelude.{◌≡◌};
 ghost use Rattle.std.specs.Option.{option_map};
-ghost use Rattle.vd_cmd.specs.Own.{help_of, help_of_certify, help_of_choose, help_of_clear, help_of_compile, help_of_deal, help_of_depends, help_of_draw, help_of_excuse, help_of_gen, help_of_hasten, help_of_host, help_of_host_within, help_of_influences, help_of_labels, help_of_needs, help_of_replay, help_of_run, help_of_trial, help_text, help_to_run, help_to_trust, help_to_try, is_either, own_text_of, version_text};
+ghost use Rattle.vd_cmd.specs.Own.{help_of, help_of_certify, help_of_check, help_of_choose, help_of_clear, help_of_compile, help_of_deal, help_of_depends, help_of_draw, help_of_excuse, help_of_gen, help_of_hasten, help_of_host, help_of_host_within, help_of_influences, help_of_labels, help_of_needs, help_of_replay, help_of_run, help_of_trial, help_text, help_to_run, help_to_trust, help_to_try, is_either, own_text_of, version_text};
 
 use vd_base::Texts;
 
@@ -43,6 +43,9 @@ To run it:
                                 MULS and ANDS products and PAIRS pairs, all made from the number KEY; or, where KEY is
                                 draw, or @ and the name of a file of 32 bytes, from a key that is drawn or read, for a
                                 run whose links are sealed
+  viaduct check PROGRAM INPUTS DEAL
+                                look at the files of a host before it is run, and mark nothing: print its plan, how many
+                                inputs and items it takes at most and how many there are, and whether DEAL was used
   viaduct host PROGRAM INPUTS DEAL ADDR..
                                 run the host whose program the file PROGRAM is, over sockets, with its own part of
                                 INPUTS and its deal; there is one ADDR for each other host, in host order, where the
@@ -228,6 +231,16 @@ fn help_of_deal() -> &'static str
 "
 }
 
+#[tactic(auto, unfolding(crate::specs::Own::help_of_check))]
+fn help_of_check() -> &'static str
+    ensures { result.now ≡ help_of_check }
+{
+    "viaduct check PROGRAM INPUTS DEAL
+  look at the files of a host before it is run, and mark nothing: print its plan, how many
+  inputs and items it takes at most and how many there are, and whether DEAL was used
+"
+}
+
 #[tactic(auto, unfolding(crate::specs::Own::help_of_host))]
 fn help_of_host() -> &'static str
     ensures { result.now ≡ help_of_host }
@@ -379,6 +392,8 @@ fn help_to_run(word: &str) -> Option<&'static str>
         Some(help_of_hasten())
     } else if word == "deal" {
         Some(help_of_deal())
+    } else if word == "check" {
+        Some(help_of_check())
     } else if word == "host" {
         Some(help_of_host())
     } else if word == "host-within" {

@@ -6,9 +6,9 @@ ghost use Rattle.vd_cmd.specs.declared.command.KeySource.TheVariants.{InFile};
 
 use crate::command::{Command, CommandFault, FilesCommand, HostWords};
 use crate::forms::{
-    certify_of, choose_of, clear_of, compile_of, deal_drawn, deal_from_file, deal_of, depends_of,
-    draw_of, early_of, excuse_of, gen_of, hasten_of, influences_of, needs_of, replay_of, run_of,
-    trial_of,
+    certify_of, check_of, choose_of, clear_of, compile_of, deal_drawn, deal_from_file, deal_of,
+    depends_of, draw_of, early_of, excuse_of, gen_of, hasten_of, influences_of, needs_of,
+    replay_of, run_of, trial_of,
 };
 use crate::numbers::number_within;
 use std::alloc::{AllocError, Global};
@@ -155,17 +155,19 @@ fn three_words(
 fn four_words(
     alloc: Global,
     word: &Text,
-    source: &Text,
-    prefix: &Text,
-    budget: &Text,
+    first: &Text,
+    second: &Text,
+    third: &Text,
 ) -> Result<Command, CommandFault>
-    ensures { Reads (fixed_form_of (word.now ∷ source.now ∷ prefix.now ∷ budget.now ∷ [])) result }
+    ensures { Reads (fixed_form_of (word.now ∷ first.now ∷ second.now ∷ third.now ∷ [])) result }
 {
     if word.as_str() == "compile" {
-        compile_with(alloc, source, prefix, budget)
-    } else if word.as_str() == "needs" && prefix.as_str() == "each" {
-        let budget = number_within(1, u64::from(SEARCH_BUDGET), budget);
-        needs_of(alloc, source, true, budget)
+        compile_with(alloc, first, second, third)
+    } else if word.as_str() == "check" {
+        check_of(alloc, first, second, third)
+    } else if word.as_str() == "needs" && second.as_str() == "each" {
+        let budget = number_within(1, u64::from(SEARCH_BUDGET), third);
+        needs_of(alloc, first, true, budget)
     } else {
         Err(CommandFault::Usage)
     }
@@ -361,7 +363,7 @@ fn read_fixed(alloc: Global, words: &[Text]) -> Result<Command, CommandFault>
     match words {
         [word, argument] => two_words(alloc, word, argument),
         [word, source, other] => three_words(alloc, word, source, other),
-        [word, source, prefix, budget] => four_words(alloc, word, source, prefix, budget),
+        [word, first, second, third] => four_words(alloc, word, first, second, third),
         [word, source, inputs, prefix, schedule] => {
             five_words(alloc, word, source, inputs, prefix, schedule)
         }

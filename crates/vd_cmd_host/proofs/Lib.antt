@@ -19,3 +19,6 @@ mod Staying
 mod Ending
 mod Instance
 mod Serving
+mod Checks
+mod HavingEnough
+mod NeverShort

@@ -44,25 +44,25 @@ pub program_is_read : (bytes : List ℕ) (result : Result HostProgram Status) �
 program_is_read bytes (Ok program) given heading code = record { read = (bytes, given); heading = heading; code = code }
 program_is_read bytes (Err status) given heading code = tt
 
-pub program_file : (words : HostWords) (before now : FilesView) (bytes seen : List ℕ) (result : Result HostProgram Status) → Loads words.program most_host_file_bytes before now (Ok bytes) → seen ≡ bytes
-    → IfOk result (λ program. IsProgramOf seen program) → IfErr result (IsProgramEnd seen) → LoadsProgram words before now result
-program_file words before now bytes seen result loads same ok err =
-    read_file {T = HostProgram} words.program most_host_file_bytes IsProgramOf IsProgramEnd before now bytes seen result loads same ok (both {T = HostProgram} IsProgramEnd seen result (program_read seen) err)
+pub program_file : (name : List ℕ) (before now : FilesView) (bytes seen : List ℕ) (result : Result HostProgram Status) → Loads name most_host_file_bytes before now (Ok bytes) → seen ≡ bytes
+    → IfOk result (λ program. IsProgramOf seen program) → IfErr result (IsProgramEnd seen) → LoadsProgram name before now result
+program_file name before now bytes seen result loads same ok err =
+    read_file {T = HostProgram} name most_host_file_bytes IsProgramOf IsProgramEnd before now bytes seen result loads same ok (both {T = HostProgram} IsProgramEnd seen result (program_read seen) err)
 
-pub no_inputs_file : (words : HostWords) (program : HostProgram) (before now : FilesView) (bytes seen : List ℕ) (status : Status) → Loads words.inputs most_inputs_bytes before now (Ok bytes) → seen ≡ bytes
-    → IsInputsEnd program.hosts seen status → LoadsInputs words program before now (Err status)
-no_inputs_file words program before now bytes seen status loads same err =
-    read_file {T = List ℕ} words.inputs most_inputs_bytes (AreInputsOf program.hosts program.me.0) (IsInputsEnd program.hosts) before now bytes seen (Err status) loads same tt (err, inputs_read program.hosts seen status err)
+pub no_inputs_file : (name : List ℕ) (program : HostProgram) (before now : FilesView) (bytes seen : List ℕ) (status : Status) → Loads name most_inputs_bytes before now (Ok bytes) → seen ≡ bytes
+    → IsInputsEnd program.hosts seen status → LoadsInputs name program before now (Err status)
+no_inputs_file name program before now bytes seen status loads same err =
+    read_file {T = List ℕ} name most_inputs_bytes (AreInputsOf program.hosts program.me.0) (IsInputsEnd program.hosts) before now bytes seen (Err status) loads same tt (err, inputs_read program.hosts seen status err)
 
-pub inputs_file : (words : HostWords) (program : HostProgram) (before now : FilesView) (bytes seen : List ℕ) (inputs : List (List ℕ)) (own : List ℕ) → Loads words.inputs most_inputs_bytes before now (Ok bytes) → seen ≡ bytes
-    → GivesInputs program.hosts seen inputs → slice_get inputs program.me.0 ≡ Some own → LoadsInputs words program before now (Ok own)
-inputs_file words program before now bytes seen inputs own loads same are here =
-    read_file {T = List ℕ} words.inputs most_inputs_bytes (AreInputsOf program.hosts program.me.0) (IsInputsEnd program.hosts) before now bytes seen (Ok own) loads same (inputs, are, here) tt
+pub inputs_file : (name : List ℕ) (program : HostProgram) (before now : FilesView) (bytes seen : List ℕ) (inputs : List (List ℕ)) (own : List ℕ) → Loads name most_inputs_bytes before now (Ok bytes) → seen ≡ bytes
+    → GivesInputs program.hosts seen inputs → slice_get inputs program.me.0 ≡ Some own → LoadsInputs name program before now (Ok own)
+inputs_file name program before now bytes seen inputs own loads same are here =
+    read_file {T = List ℕ} name most_inputs_bytes (AreInputsOf program.hosts program.me.0) (IsInputsEnd program.hosts) before now bytes seen (Ok own) loads same (inputs, are, here) tt
 
-pub deal_file : (words : HostWords) (program : HostProgram) (before now : FilesView) (bytes seen : List ℕ) (result : Result Dealt Status) → Loads words.deal most_deal_bytes before now (Ok bytes) → seen ≡ bytes
-    → IfOk result (λ dealt. IsDealtFile (length program.hosts) program.me.0 seen dealt) → IfErr result (IsDealEnd program.hosts program.me.0 seen) → LoadsDeal words program before now result
-deal_file words program before now bytes seen result loads same ok err =
-    read_file {T = Dealt} words.deal most_deal_bytes (IsDealtFile (length program.hosts) program.me.0) (IsDealEnd program.hosts program.me.0) before now bytes seen result loads same ok
+pub deal_file : (name : List ℕ) (program : HostProgram) (before now : FilesView) (bytes seen : List ℕ) (result : Result Dealt Status) → Loads name most_deal_bytes before now (Ok bytes) → seen ≡ bytes
+    → IfOk result (λ dealt. IsDealtFile (length program.hosts) program.me.0 seen dealt) → IfErr result (IsDealEnd program.hosts program.me.0 seen) → LoadsDeal name program before now result
+deal_file name program before now bytes seen result loads same ok err =
+    read_file {T = Dealt} name most_deal_bytes (IsDealtFile (length program.hosts) program.me.0) (IsDealEnd program.hosts program.me.0) before now bytes seen result loads same ok
     (both {T = Dealt} (IsDealEnd program.hosts program.me.0) seen result (deal_read program.hosts program.me.0 seen) err)
 
 -- these files were fetched and read so far
@@ -112,11 +112,11 @@ module _ {T : Type 0} (name : List ℕ) (limit : ℕ) (Gives : List ℕ → T �
 -- the files of a host
 module _ (words : HostWords) (before : FilesView) where
   -- the program is not loaded
-  pub no_program : (now : FilesView) (status : Status) → LoadsProgram words before now (Err status) → LoadsHost words before now (Err status)
+  pub no_program : (now : FilesView) (status : Status) → LoadsProgram words.program before now (Err status) → LoadsHost words before now (Err status)
   no_program now status loads =
       stops {T = HostProgram} words.program most_host_file_bytes IsProgramOf IsProgramEnd before before now [] (none_yet before) words (Fetch words.inputs ∷ Fetch words.deal ∷ []) status refl loads (λ t cause. OfProgram cause)
 
-  module _ (mid : FilesView) (program : HostProgram) (first : LoadsProgram words before mid (Ok program)) where
+  module _ (mid : FilesView) (program : HostProgram) (first : LoadsProgram words.program before mid (Ok program)) where
     behind_program : SoFar before mid (Fetch words.program ∷ [])
     behind_program = one_more {T = HostProgram} words.program most_host_file_bytes IsProgramOf IsProgramEnd before before mid [] (none_yet before) program first
 
@@ -143,12 +143,12 @@ module _ (words : HostWords) (before : FilesView) where
 
     module _ (addresses : HasAddresses words program) where
       -- the inputs are not loaded
-      pub no_inputs : (now : FilesView) (status : Status) → LoadsInputs words program mid now (Err status) → LoadsHost words before now (Err status)
+      pub no_inputs : (now : FilesView) (status : Status) → LoadsInputs words.inputs program mid now (Err status) → LoadsHost words before now (Err status)
       no_inputs now status loads =
           stops {T = List ℕ} words.inputs most_inputs_bytes (AreInputsOf program.hosts program.me.0) (IsInputsEnd program.hosts) before mid now (Fetch words.program ∷ []) behind_program words (Fetch words.deal ∷ []) status refl loads
           (λ t cause. OfInputs program (program_held t) addresses cause)
 
-      module _ (late : FilesView) (own : List ℕ) (second : LoadsInputs words program mid late (Ok own)) where
+      module _ (late : FilesView) (own : List ℕ) (second : LoadsInputs words.inputs program mid late (Ok own)) where
         behind_inputs : SoFar before late (Fetch words.program ∷ Fetch words.inputs ∷ [])
         behind_inputs = one_more {T = List ℕ} words.inputs most_inputs_bytes (AreInputsOf program.hosts program.me.0) (IsInputsEnd program.hosts) before mid late (Fetch words.program ∷ []) behind_program own second
 
@@ -156,13 +156,13 @@ module _ (words : HostWords) (before : FilesView) where
         inputs_held = held {T = List ℕ} words.inputs most_inputs_bytes (AreInputsOf program.hosts program.me.0) (IsInputsEnd program.hosts) before mid late (Fetch words.program ∷ []) behind_program own second
 
         -- the deal is not loaded
-        pub no_deal : (now : FilesView) (status : Status) → LoadsDeal words program late now (Err status) → LoadsHost words before now (Err status)
+        pub no_deal : (now : FilesView) (status : Status) → LoadsDeal words.deal program late now (Err status) → LoadsHost words before now (Err status)
         no_deal now status loads =
             stops {T = Dealt} words.deal most_deal_bytes (IsDealtFile (length program.hosts) program.me.0) (IsDealEnd program.hosts program.me.0) before late now (Fetch words.program ∷ Fetch words.inputs ∷ []) behind_inputs words [] status refl loads
             (λ t cause. OfDeal program own (program_held t) addresses (inputs_held t) cause)
 
         -- all is loaded
-        pub all_loaded : (now : FilesView) (dealt : Dealt) → LoadsDeal words program late now (Ok dealt) → LoadsHost words before now (Ok (record { program = program; inputs = own; dealt = dealt }))
+        pub all_loaded : (now : FilesView) (dealt : Dealt) → LoadsDeal words.deal program late now (Ok dealt) → LoadsHost words before now (Ok (record { program = program; inputs = own; dealt = dealt }))
         all_loaded now dealt loads =
             let so = one_more {T = Dealt} words.deal most_deal_bytes (IsDealtFile (length program.hosts) program.me.0) (IsDealEnd program.hosts program.me.0) before late now (Fetch words.program ∷ Fetch words.inputs ∷ []) behind_inputs dealt loads in
             record {

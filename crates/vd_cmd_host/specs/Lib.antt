@@ -7,3 +7,5 @@ pub mod Sealing
 pub mod Statuses
 pub mod Instance
 pub mod Serving
+pub mod Checking
+pub mod CheckLaws

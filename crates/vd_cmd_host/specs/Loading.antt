@@ -5,6 +5,7 @@ use Rattle.vd_outside.specs.Causes.{Rose}
 use Rattle.vd_outside.specs.Files.{Contents, FilesView, fetched}
 use Rattle.vd_outside.specs.declared.faults.FetchFault.TheVariants as fetch_fault
 use Rattle.vd_outside.specs.declared.files.FilesCall.TheVariants.{Fetch}
+use Rattle.vd_cmd.specs.declared.command.CheckWords.{CheckWords}
 use Rattle.vd_cmd.specs.declared.command.HostWords.{HostWords}
 use Rattle.vd_deal_versions.specs.declared.dealt.Dealt.{Dealt}
 use Rattle.vd_host_session.specs.Starts.{IsProgramRead}
@@ -78,15 +79,15 @@ pub record LoadsFile {T : Type 0} (name : List ℕ) (limit : ℕ) (Gives : List 
   pub given : IsTrue before.told → IfOk result (λ value. IsHeld name limit before.contents (λ bytes. Gives bytes value))
   pub cause : IsTrue before.told → IfErr result (IsFileCause name limit IsEnd before.contents)
 
-abbrev pub LoadsProgram : HostWords → FilesView → FilesView → Result HostProgram Status → Type 0
-LoadsProgram words before now result = LoadsFile words.program most_host_file_bytes IsProgramOf IsProgramEnd before now result
+abbrev pub LoadsProgram : (name : List ℕ) → FilesView → FilesView → Result HostProgram Status → Type 0
+LoadsProgram name before now result = LoadsFile name most_host_file_bytes IsProgramOf IsProgramEnd before now result
 
-abbrev pub LoadsInputs : HostWords → HostProgram → FilesView → FilesView → Result (List ℕ) Status → Type 0
-LoadsInputs words program before now result = LoadsFile words.inputs most_inputs_bytes (AreInputsOf program.hosts program.me.0) (IsInputsEnd program.hosts) before now result
+abbrev pub LoadsInputs : (name : List ℕ) → HostProgram → FilesView → FilesView → Result (List ℕ) Status → Type 0
+LoadsInputs name program before now result = LoadsFile name most_inputs_bytes (AreInputsOf program.hosts program.me.0) (IsInputsEnd program.hosts) before now result
 
-abbrev pub LoadsDeal : HostWords → HostProgram → FilesView → FilesView → Result Dealt Status → Type 0
-LoadsDeal words program before now result =
-    LoadsFile words.deal most_deal_bytes (IsDealtFile (length program.hosts) program.me.0) (IsDealEnd program.hosts program.me.0) before now result
+abbrev pub LoadsDeal : (name : List ℕ) → HostProgram → FilesView → FilesView → Result Dealt Status → Type 0
+LoadsDeal name program before now result =
+    LoadsFile name most_deal_bytes (IsDealtFile (length program.hosts) program.me.0) (IsDealEnd program.hosts program.me.0) before now result
 
 -- ---- all files
 
@@ -139,3 +140,16 @@ pub record LoadsHost (words : HostWords) (before now : FilesView) (result : Resu
   pub whole : IsTrue before.told → IfOk result (λ loaded. now.asked ≡ before.asked ++ fetch_calls (files_of words))
   pub given : IsTrue before.told → IfOk result (HoldsHost words before.contents)
   pub cause : IsTrue before.told → IfErr result (IsCause words before.contents)
+
+-- The three files are fetched and read in the same order, with no address to look at, until one is refused.
+pub data LoadsFiles (words : CheckWords) (before now : FilesView) : Result Loaded Status → Type 0 where
+  NoProgram : (refusal : Status) → LoadsProgram words.program before now (Err refusal) → LoadsFiles words before now (Err refusal)
+  NoInputs : (between : FilesView) (program : HostProgram) (refusal : Status) → LoadsProgram words.program before between (Ok program)
+      → LoadsInputs words.inputs program between now (Err refusal) → LoadsFiles words before now (Err refusal)
+  NoDeal : (between later : FilesView) (program : HostProgram) (inputs : List ℕ) (refusal : Status)
+      → LoadsProgram words.program before between (Ok program) → LoadsInputs words.inputs program between later (Ok inputs)
+      → LoadsDeal words.deal program later now (Err refusal) → LoadsFiles words before now (Err refusal)
+  AllRead : (between later : FilesView) (program : HostProgram) (inputs : List ℕ) (dealt : Dealt)
+      → LoadsProgram words.program before between (Ok program) → LoadsInputs words.inputs program between later (Ok inputs)
+      → LoadsDeal words.deal program later now (Ok dealt)
+      → LoadsFiles words before now (Ok (record { program = program; inputs = inputs; dealt = dealt }))

@@ -2,16 +2,17 @@
 
 ghost use Rattle.std.specs.Prelude.{◌≡◌, ◌≢◌, ◌<◌, ◌≤◌, ◌+◌, Some, length, slice_get, IfOk, IfErr, OnOk};
 ghost use Rattle.vd_base.specs.Limits.{most_hosts};
-ghost use Rattle.vd_cmd_host.specs.Loading.{IsDealEnd, IsInputsEnd, IsLoaded, LoadsDeal, LoadsHost, LoadsInputs, LoadsProgram};
+ghost use Rattle.vd_cmd_host.specs.Loading.{LoadsFiles, IsDealEnd, IsInputsEnd, IsLoaded, LoadsDeal, LoadsHost, LoadsInputs, LoadsProgram};
 ghost use Rattle.vd_host_session.specs.Starts.{IsProgramRead};
+ghost use Rattle.vd_hostcode.specs.Outcome.{CanRun, IsHeaded};
 ghost use Rattle.vd_cmd_plan.specs.declared.status.Status.TheVariants.{Usage};
 ghost use Rattle.vd_report.specs.InputsText.{GivesInputs};
 ghost use Rattle.vd_deal_versions.specs.Text.{IsDealtFile, IsDealtOf};
 
 use std::alloc::{AllocError, Global};
 use vd_base::limits::{DEAL_BYTES, HOST_FILE_BYTES, INPUTS_BYTES};
-use vd_base::{FileFault, HostId, Inputs, Name, Names, Words};
-use vd_cmd::HostWords;
+use vd_base::{FileFault, HostId, Inputs, Name, Names, Text, Words};
+use vd_cmd::{CheckWords, HostWords};
 use vd_cmd_plan::{Status, input_status, load, program_in};
 use vd_deal_versions::{Dealt, read_dealt};
 use vd_hostcode::HostProgram;
@@ -87,15 +88,11 @@ fn expect_addresses(program: &HostProgram, words: &HostWords) -> Result<(), Stat
 }
 
 /// Fetches the program of a host, and reads it.
-fn load_program<F: Files>(
-    alloc: Global,
-    files: &mut F,
-    words: &HostWords,
-) -> Result<HostProgram, Status>
-    ensures loads { LoadsProgram words.now (F.view files.old) (F.view files.new) result }
+fn load_program<F: Files>(alloc: Global, files: &mut F, name: &Text) -> Result<HostProgram, Status>
+    ensures loads { LoadsProgram name.now (F.view files.old) (F.view files.new) result }
     ensures read { IfOk result IsProgramRead }
 {
-    let bytes = load(alloc, files, words.program.as_str(), HOST_FILE_BYTES)?;
+    let bytes = load(alloc, files, name.as_str(), HOST_FILE_BYTES)?;
     program_in(alloc, bytes.as_slice())
 }
 
@@ -103,13 +100,13 @@ fn load_program<F: Files>(
 fn load_inputs<F: Files>(
     alloc: Global,
     files: &mut F,
-    words: &HostWords,
+    name: &Text,
     program: &HostProgram,
 ) -> Result<Words, Status>
     requires { IsProgramRead program.now }
-    ensures { LoadsInputs words.now program.now (F.view files.old) (F.view files.new) result }
+    ensures { LoadsInputs name.now program.now (F.view files.old) (F.view files.new) result }
 {
-    let bytes = load(alloc, files, words.inputs.as_str(), INPUTS_BYTES)?;
+    let bytes = load(alloc, files, name.as_str(), INPUTS_BYTES)?;
     let inputs = inputs_in(alloc, bytes.as_slice(), &program.hosts)?;
     Ok(words_at(inputs, program.me))
 }
@@ -118,14 +115,14 @@ fn load_inputs<F: Files>(
 fn load_deal<F: Files>(
     alloc: Global,
     files: &mut F,
-    words: &HostWords,
+    name: &Text,
     program: &HostProgram,
 ) -> Result<Dealt, Status>
     requires { IsProgramRead program.now }
-    ensures loads { LoadsDeal words.now program.now (F.view files.old) (F.view files.new) result }
+    ensures loads { LoadsDeal name.now program.now (F.view files.old) (F.view files.new) result }
     ensures dealt { IfOk result (IsDealtOf (length program.now.hosts) program.now.me.0) }
 {
-    let bytes = load(alloc, files, words.deal.as_str(), DEAL_BYTES)?;
+    let bytes = load(alloc, files, name.as_str(), DEAL_BYTES)?;
     deal_in(alloc, bytes.as_slice(), &program.hosts, program.me)
 }
 
@@ -139,10 +136,30 @@ pub(crate) fn load_host<F: Files>(
     ensures loads { LoadsHost words.now (F.view files.old) (F.view files.new) result }
     ensures loaded { IfOk result (IsLoaded words.now) }
 {
-    let program = load_program(alloc, files, words)?;
+    let program = load_program(alloc, files, &words.program)?;
     expect_addresses(&program, words)?;
-    let inputs = load_inputs(alloc, files, words, &program)?;
-    let dealt = load_deal(alloc, files, words, &program)?;
+    let inputs = load_inputs(alloc, files, &words.inputs, &program)?;
+    let dealt = load_deal(alloc, files, &words.deal, &program)?;
+    Ok(Loaded {
+        program,
+        inputs,
+        dealt,
+    })
+}
+
+/// Fetches the three files of a host, in the order in which `load_host` does, and reads each as soon as it is fetched.
+pub(crate) fn load_files<F: Files>(
+    alloc: Global,
+    files: &mut F,
+    words: &CheckWords,
+) -> Result<Loaded, Status>
+    ensures loads { LoadsFiles words.now (F.view files.old) (F.view files.new) result }
+    ensures heading { IfOk result (λ loaded. IsHeaded loaded.program) }
+    ensures code { IfOk result (λ loaded. CanRun loaded.program) }
+{
+    let program = load_program(alloc, files, &words.program)?;
+    let inputs = load_inputs(alloc, files, &words.inputs, &program)?;
+    let dealt = load_deal(alloc, files, &words.deal, &program)?;
     Ok(Loaded {
         program,
         inputs,

@@ -13,7 +13,7 @@ use vd_hostcode::HostProgram;
 use vd_outside::Marks;
 
 /// The name of the mark of a host's deal of this dealing.
-fn mark_name(alloc: Global, id: &[u8; 32], me: HostId) -> Result<Bytes, AllocError>
+pub(crate) fn mark_name(alloc: Global, id: &[u8; 32], me: HostId) -> Result<Bytes, AllocError>
     ensures { IfOk result (λ name. name ≡ mark_name id.now me.0) }
 {
     let mut name = Bytes::from_slice(alloc, b"viaduct-used-")?;

@@ -82,7 +82,7 @@ fn count_before(
 
 /// How many items a code takes from a list at most: of a branch what the dearer of its parts takes, of a loop what its body takes
 /// in each turn. The text is read from its end to its front, so that what a block takes is known where it opens.
-pub(crate) fn count(alloc: Global, code: &[Instr], list: ItemList) -> Result<u32, AllocError>
+pub fn count(alloc: Global, code: &[Instr], list: ItemList) -> Result<u32, AllocError>
     requires { IsCountable code.now }
     ensures { IfOk result (λ taken. taken ≡ counts (code_in code.now) (source_in list)) }
 {

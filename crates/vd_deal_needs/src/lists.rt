@@ -11,7 +11,7 @@ use vd_execution::Action;
 
 /// A list that a host takes items from, one after the other.
 #[derive(Clone, Copy, PartialEq, Eq)]
-pub(crate) enum ItemList {
+pub enum ItemList {
     /// The host's inputs.
     Inputs,
     /// Its own random words.

@@ -13,6 +13,7 @@ usage_table =
     ∷ (codes "needs", codes "usage: viaduct needs FILE [each] [BUDGET]\n")
     ∷ (codes "deal", codes "usage: viaduct deal HOSTS OWN MULS ANDS PAIRS KEY PREFIX\n")
     ∷ (codes "replay", codes "usage: viaduct replay SOURCE INPUTS PREFIX SCHEDULE [messages] [BUDGET]\n")
+    ∷ (codes "check", codes "usage: viaduct check PROGRAM INPUTS DEAL\n")
     ∷ (codes "host", codes "usage: viaduct host PROGRAM INPUTS DEAL ADDR..\n")
     ∷ (codes "host-within", codes "usage: viaduct host-within SECONDS PROGRAM INPUTS DEAL ADDR..\n")
     ∷ (codes "run", codes "usage: viaduct run SOURCE INPUTS PREFIX SELF PORT\n")

@@ -5,7 +5,7 @@ ghost use Rattle.vd_diag.specs.Usage as usage;
 
 use crate::tables::in_table;
 
-const USAGES: [(&[u8], &[u8]); 18] = [
+const USAGES: [(&[u8], &[u8]); 19] = [
     (b"clear", b"usage: viaduct clear SOURCE INPUTS\n"),
     (b"labels", b"usage: viaduct labels SOURCE\n"),
     (b"choose", b"usage: viaduct choose SOURCE [BUDGET]\n"),
@@ -24,6 +24,7 @@ const USAGES: [(&[u8], &[u8]); 18] = [
         b"replay",
         b"usage: viaduct replay SOURCE INPUTS PREFIX SCHEDULE [messages] [BUDGET]\n",
     ),
+    (b"check", b"usage: viaduct check PROGRAM INPUTS DEAL\n"),
     (b"host", b"usage: viaduct host PROGRAM INPUTS DEAL ADDR..\n"),
     (
         b"host-within",

@@ -30,10 +30,11 @@ abbrev pub of_numbered : Option (List ℕ) → (number offset : ℕ) → List �
 of_numbered None number offset = []
 of_numbered (Some prefix) number offset = of_whole (file_name prefix number (codes ".deal")) (deal_sentence offset)
 
--- The words of `host` and of `host-within` name the deal file; those of others name its prefix, but `excuse` in another word.
+-- The words of `check`, of `host` and of `host-within` name the deal file; those of others name its prefix, but `excuse` in another word.
 abbrev pub of_deal : List (List ℕ) → (number offset : ℕ) → List ℕ
 of_deal words number offset =
     if bytes_eq (command words) (codes "excuse") then []
+    else if bytes_eq (command words) (codes "check") then of_word words 3 (deal_sentence offset)
     else if bytes_eq (command words) (codes "host") then of_word words 3 (deal_sentence offset)
     else if bytes_eq (command words) (codes "host-within") then of_word words 3 (deal_sentence offset)
     else of_numbered (word_at words 3) number offset

@@ -54,7 +54,7 @@ abbrev pub shown_file : List (List ℕ) → Status → Option (List ℕ)
 shown_file words end = option_map_or (λ reading. word_at words reading.word) (reading_of words end) None
 
 -- Of each file of `replay SOURCE INPUTS PREFIX SCHEDULE` a fault of its text is shown in that file; so is one of the inputs of
--- `host PROGRAM INPUTS ..`, also behind `host-within SECONDS`.
+-- `host PROGRAM INPUTS ..`, also behind `host-within SECONDS`, and of `check PROGRAM INPUTS DEAL`.
 pub record FaultsAreShownInTheirFiles : Type 0 where
   pub sources : (s i p t : List ℕ) (fault : ParseFault) → shown_file (codes "replay" ∷ s ∷ i ∷ p ∷ t ∷ []) (status.Syntax fault) ≡ Some s
   pub inputs : (s i p t : List ℕ) (fault : ReadFault) → shown_file (codes "replay" ∷ s ∷ i ∷ p ∷ t ∷ []) (status.InputText fault) ≡ Some i
@@ -62,3 +62,4 @@ pub record FaultsAreShownInTheirFiles : Type 0 where
   pub hosts : (p i : List ℕ) (more : List (List ℕ)) (fault : ReadFault) → shown_file (codes "host" ∷ p ∷ i ∷ more) (status.InputText fault) ≡ Some i
   pub within : (s p i : List ℕ) (more : List (List ℕ)) (fault : ReadFault)
       → shown_file (codes "host-within" ∷ s ∷ p ∷ i ∷ more) (status.InputText fault) ≡ Some i
+  pub checks : (p i d : List ℕ) (fault : ReadFault) → shown_file (codes "check" ∷ p ∷ i ∷ d ∷ []) (status.InputText fault) ≡ Some i

@@ -75,7 +75,10 @@ fn of_deal(alloc: Global, words: &Texts, number: u8, offset: u32) -> Result<Byte
     if is_command(words, b"excuse") {
         return Ok(Bytes::new(alloc));
     }
-    if is_command(words, b"host") || is_command(words, b"host-within") {
+    if is_command(words, b"check")
+        || is_command(words, b"host")
+        || is_command(words, b"host-within")
+    {
         let sentence = deal_sentence(alloc, offset)?;
         return of_word(alloc, words, DEAL, sentence);
     }

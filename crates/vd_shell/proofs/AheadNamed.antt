@@ -43,5 +43,6 @@ named_ahead = record {
   excuse = λ words. (inl refl, inr (inl refl), inr (inr (inl refl)));
   excused_deals = λ words. excused words;
   host = λ words. (inl refl, inr (inl refl), inr (inr (inl refl)));
+  check = λ words. (inl refl, inr (inl refl), inr (inr (inl refl)));
   run = λ words. inl refl;
 }

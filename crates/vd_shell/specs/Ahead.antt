@@ -2,7 +2,7 @@
 use Rattle.std.specs.Prelude.{ℕ, List, [], ◌∷◌, ◌++◌, Option, Some, None, codes}
 use Rattle.vd_base.specs.Limits.{most_source_bytes, most_inputs_bytes, most_certificate_bytes, most_schedule_bytes, most_deal_bytes, most_host_file_bytes}
 use Rattle.vd_cmd.specs.declared.command.Command.{Command}
-use Rattle.vd_cmd.specs.declared.command.Command.TheVariants.{OnFiles, KeyDeal, Early, Host, Run}
+use Rattle.vd_cmd.specs.declared.command.Command.TheVariants.{OnFiles, KeyDeal, Early, Host, Check, Run}
 use Rattle.vd_cmd.specs.declared.command.KeySource.{KeySource}
 use Rattle.vd_cmd.specs.declared.command.KeySource.TheVariants.{Drawn, InFile}
 use Rattle.vd_cmd.specs.declared.command.FilesCommand.TheVariants.{Clear, Labels, Choose, Draw, Certify, Compile, Needs, Hasten, Deal, Replay, Excuse, Depends, Influences, Gen, Trial}
@@ -47,6 +47,7 @@ wanted_of (OnFiles (Trial coordinates)) = []
 wanted_of (KeyDeal words) = key_files words.key
 wanted_of (Early words) = file words.source most_source_bytes ∷ []
 wanted_of (Host words) = file words.program most_host_file_bytes ∷ file words.inputs most_inputs_bytes ∷ file words.deal most_deal_bytes ∷ []
+wanted_of (Check words) = file words.program most_host_file_bytes ∷ file words.inputs most_inputs_bytes ∷ file words.deal most_deal_bytes ∷ []
 wanted_of (Run words) = file words.source most_source_bytes ∷ []
 
 -- words that have no form want no file

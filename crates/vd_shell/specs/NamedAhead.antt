@@ -3,7 +3,8 @@ use Rattle.std.specs.Prelude.{◌≡◌, ◌⊎◌, ◌<◌, ℕ, List, [], ◌�
 use Rattle.vd_base.specs.Limits.{most_source_bytes, most_inputs_bytes, most_certificate_bytes, most_schedule_bytes, most_deal_bytes}
 use Rattle.vd_base.specs.Limits.{most_host_file_bytes}
 use Rattle.vd_cmd.specs.declared.command.Command.{Command}
-use Rattle.vd_cmd.specs.declared.command.Command.TheVariants.{OnFiles, KeyDeal, Early, Host, Run}
+use Rattle.vd_cmd.specs.declared.command.Command.TheVariants.{OnFiles, KeyDeal, Early, Host, Check, Run}
+use Rattle.vd_cmd.specs.declared.command.CheckWords.{CheckWords}
 use Rattle.vd_cmd.specs.declared.command.EarlyWords.{EarlyWords}
 use Rattle.vd_cmd.specs.declared.command.ExcuseWords.{ExcuseWords}
 use Rattle.vd_cmd.specs.declared.command.HostWords.{HostWords}
@@ -56,4 +57,6 @@ pub record NamedFilesAreAhead : Type 0 where
   pub excused_deals : (words : ExcuseWords) → AreDealsAhead (OnFiles (Excuse words)) words.prefix
   pub host : (words : HostWords) → IsAhead (Host words) words.program most_host_file_bytes
       × IsAhead (Host words) words.inputs most_inputs_bytes × IsAhead (Host words) words.deal most_deal_bytes
+  pub check : (words : CheckWords) → IsAhead (Check words) words.program most_host_file_bytes
+      × IsAhead (Check words) words.inputs most_inputs_bytes × IsAhead (Check words) words.deal most_deal_bytes
   pub run : (words : RunWords) → IsAhead (Run words) words.source most_source_bytes

@@ -13,7 +13,8 @@ use vd_base::limits::{
 };
 use vd_base::{Items, Text, Texts};
 use vd_cmd::{
-    Command, CommandFault, ExcuseWords, FilesCommand, HostWords, KeySource, ReplayWords, read_words,
+    CheckWords, Command, CommandFault, ExcuseWords, FilesCommand, HostWords, KeySource,
+    ReplayWords, read_words,
 };
 use vd_cmd_plan::file_name;
 use vd_edge::{Directory, KeptFiles, RealFiles, Wanted};
@@ -98,6 +99,16 @@ fn of_host(alloc: Global, words: &HostWords) -> Result<Items<Wanted>, AllocError
     Ok(files)
 }
 
+/// The files of `check`.
+fn of_check(alloc: Global, words: &CheckWords) -> Result<Items<Wanted>, AllocError>
+    ensures { IfOk result (λ files. files ≡ wanted_of (Command.Check words.now)) }
+{
+    let mut files = one(alloc, &words.program, HOST_FILE_BYTES)?;
+    files.push(named(alloc, &words.inputs, INPUTS_BYTES)?)?;
+    files.push(named(alloc, &words.deal, DEAL_BYTES)?)?;
+    Ok(files)
+}
+
 /// The file of a key of 32 bytes, where it is read.
 fn of_key(alloc: Global, key: &KeySource) -> Result<Items<Wanted>, AllocError>
     ensures { IfOk result (λ files. files ≡ key_files key.now) }
@@ -137,6 +148,7 @@ fn files_of(alloc: Global, command: &Command) -> Result<Items<Wanted>, AllocErro
         Command::KeyDeal(words) => of_key(alloc, &words.key),
         Command::Early(words) => one(alloc, &words.source, SOURCE_BYTES),
         Command::Host(words) => of_host(alloc, words),
+        Command::Check(words) => of_check(alloc, words),
         Command::Run(words) => one(alloc, &words.source, SOURCE_BYTES),
     }
 }

@@ -3,7 +3,7 @@ use Rattle.std.proofs.Common.{◌≡◌, ℕ, true, List, ◌++◌, Option, Some
 use Rattle.vd_outside.specs.Files.{FilesView, Contents}
 use Rattle.vd_outside.specs.Sink.{SinkView}
 use Rattle.vd_cmd.specs.declared.command.Command.{Command}
-use Rattle.vd_cmd.specs.declared.command.Command.TheVariants.{OnFiles, KeyDeal, Early, Host, Run}
+use Rattle.vd_cmd.specs.declared.command.Command.TheVariants.{OnFiles, KeyDeal, Early, Host, Check, Run}
 use Rattle.vd_cmd.specs.declared.command.FilesCommand.{FilesCommand}
 use Rattle.vd_cmd.specs.declared.command.FilesCommand.TheVariants.{Compile, Excuse}
 use Rattle.vd_cmd.specs.declared.command.ExcuseWords.{ExcuseWords}
@@ -71,6 +71,7 @@ module _ (before now : FilesView) (out_before out_now : SinkView) (status : Stat
   stores_nothing not (Some (KeyDeal words)) = tt
   stores_nothing not (Some (Early words)) = tt
   stores_nothing not (Some (Host words)) = tt
+  stores_nothing not (Some (Check words)) = tt
   stores_nothing not (Some (Run words)) = tt
 
   -- what is said of the form of the words is said of them

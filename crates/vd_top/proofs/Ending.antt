@@ -3,7 +3,7 @@ use Rattle.std.proofs.Common.{ℕ, true, List, Option, Some, None, Result, Ok, E
 use Rattle.vd_outside.specs.Files.{FilesView, Contents}
 use Rattle.vd_outside.specs.Sink.{SinkView}
 use Rattle.vd_cmd.specs.declared.command.Command.{Command}
-use Rattle.vd_cmd.specs.declared.command.Command.TheVariants.{OnFiles, KeyDeal, Early, Host, Run}
+use Rattle.vd_cmd.specs.declared.command.Command.TheVariants.{OnFiles, KeyDeal, Early, Host, Check, Run}
 use Rattle.vd_cmd.specs.declared.command.FilesCommand.{FilesCommand}
 use Rattle.vd_cmd.specs.declared.command.FilesCommand.TheVariants.{Depends, Influences, Needs, Replay, Trial}
 use Rattle.vd_cmd.specs.declared.command.NeedsWords.{NeedsWords}
@@ -101,6 +101,7 @@ module _ (before now : FilesView) (out_before out_now : SinkView) (status : Stat
   complete (Some (KeyDeal words)) runs = tt
   complete (Some (Early words)) runs = tt
   complete (Some (Host words)) runs = tt
+  complete (Some (Check words)) runs = tt
   complete (Some (Run words)) runs = tt
 
   pub accepted : (words : List (List ℕ)) → CompletesWords words before now out_before out_now status → KeepsAccepted words before now out_before out_now status

@@ -1,12 +1,13 @@
 -- What holds of a command holds of the words that are its form.
-use Rattle.std.proofs.Common.{◌≡◌, ℕ, List, [], Option, Some, None, Err, true, false, refl, sym, ap, subst, ◌∙◌, arith}
+use Rattle.std.proofs.Common.{◌≡◌, ℕ, List, [], ◌∷◌, Option, Some, None, Err, true, false, refl, sym, ap, subst, ◌∙◌, arith}
 use Rattle.vd_outside.specs.Files.{FilesView}
+use Rattle.vd_outside.specs.declared.files.FilesCall.TheVariants.{Fetch}
 use Rattle.vd_outside.specs.Marks.{MarksView}
 use Rattle.vd_outside.specs.Sink.{SinkView}
 use Rattle.vd_outside.specs.Spawner.{SpawnerView}
 use Rattle.vd_cmd.specs.Commands.{form_of}
 use Rattle.vd_cmd.specs.declared.command.Command.{Command}
-use Rattle.vd_cmd.specs.declared.command.Command.TheVariants.{OnFiles, KeyDeal, Early, Host, Run}
+use Rattle.vd_cmd.specs.declared.command.Command.TheVariants.{OnFiles, KeyDeal, Early, Host, Check, Run}
 use Rattle.vd_cmd.specs.declared.command.FilesCommand.{FilesCommand}
 use Rattle.vd_cmd.specs.declared.command.ReplayWords.{ReplayWords}
 use Rattle.vd_cmd.specs.declared.command.FilesCommand.TheVariants.{Depends, Influences, Needs, Replay, Trial}
@@ -20,9 +21,11 @@ use Rattle.vd_cmd_compile_early.specs.Compiling.{early_plan}
 use Rattle.vd_cmd_host.specs.Hosts.{HostRuns, Marked, NetsView, NotLoaded, Plainly}
 use Rattle.vd_cmd_host.proofs.Front.{are_sealed, used_once}
 use Rattle.vd_cmd_deal.specs.Sources.{FromFile, NoMemory, RunsKeyDeal, file_plan}
-use Rattle.vd_cmd_host.specs.Loading.{OfProgram, files_of}
+use Rattle.vd_cmd_host.specs.Checking.{NotRead}
+use Rattle.vd_cmd_host.specs.Loading.{NoProgram, OfProgram, files_of}
 use Rattle.vd_cmd_run.specs.Running.{Refused}
 use Rattle.vd_cmd_run.specs.RunsHosts.{outside}
+use Rattle.vd_cmd.specs.declared.command.CheckWords.{CheckWords}
 use Rattle.vd_cmd.specs.declared.command.HostWords.{HostWords}
 use Rattle.vd_cmd.specs.declared.command.KeyDealWords.{KeyDealWords}
 use Rattle.vd_cmd.specs.declared.command.KeySource.{KeySource}
@@ -36,7 +39,7 @@ use Rattle.vd_cmd_run.proofs.Front.{complete}
 use Rattle.vd_cmd_host.proofs.Front.{plain_served, served}
 use Rattle.vd_top.specs.Promises.{Around, Does}
 use Rattle.vd_top.proofs.Compiling.{stores_nothing}
-use Rattle.vd_top.specs.Hosts.{KeysForm, MarksForm, PlaysForm, ReportsForm, SealsForm, ServesForm, SpawnsForm, marks_by, speaks_by, spawns_by}
+use Rattle.vd_top.specs.Hosts.{ChecksForm, KeysForm, MarksForm, PlaysForm, ReportsForm, SealsForm, ServesForm, SpawnsForm, marks_by, speaks_by, spawns_by}
 
 -- what is shown by the form is what is said of the words
 pub headline_of : (words : List (List ℕ)) (before : FilesView) (out_before out_now : SinkView) (status : Status) → ShowsForm (form_of words) before out_before out_now status → KeepsHeadline words before out_before out_now status
@@ -63,6 +66,7 @@ counts_nothing before packets status bad None = tt
 counts_nothing before packets status bad (Some (OnFiles (Replay words))) = λ t e. absurd (bad e)
 counts_nothing before packets status bad (Some (OnFiles command)) = tt
 counts_nothing before packets status bad (Some (KeyDeal words)) = tt
+counts_nothing before packets status bad (Some (Check words)) = tt
 counts_nothing before packets status bad (Some (Early words)) = tt
 counts_nothing before packets status bad (Some (Host words)) = tt
 counts_nothing before packets status bad (Some (Run words)) = tt
@@ -74,6 +78,7 @@ module _ (files : FilesView) (out : SinkView) where
   early_nothing None = tt
   early_nothing (Some (OnFiles command)) = tt
   early_nothing (Some (KeyDeal words)) = tt
+  early_nothing (Some (Check words)) = tt
   early_nothing (Some (Early words)) = record {
     runs = (
       Done,
@@ -93,6 +98,7 @@ module _ (files : FilesView) (out : SinkView) where
   runs_nothing None some = absurd (some refl)
   runs_nothing (Some (OnFiles command)) some = (GaveUp, λ outcomes. runs_err _ (plan_of outcomes (search_of outcomes GaveUp) command) files files out Memory (any_memory (plan_of outcomes (search_of outcomes GaveUp) command) files))
   runs_nothing (Some (KeyDeal words)) some = tt
+  runs_nothing (Some (Check words)) some = tt
   runs_nothing (Some (Early words)) some = tt
   runs_nothing (Some (Host words)) some = tt
   runs_nothing (Some (Run words)) some = tt
@@ -106,6 +112,7 @@ module _ (files : FilesView) (out : SinkView) where
   shows_nothing (Some (OnFiles (Trial coordinates))) = λ t. (tt, λ o e. absurd (cc e))
   shows_nothing (Some (OnFiles command)) = tt
   shows_nothing (Some (KeyDeal words)) = tt
+  shows_nothing (Some (Check words)) = tt
   shows_nothing (Some (Early words)) = tt
   shows_nothing (Some (Host words)) = tt
   shows_nothing (Some (Run words)) = tt
@@ -114,6 +121,7 @@ module _ (files : FilesView) (out : SinkView) where
   plays_nothing marks nets None = tt
   plays_nothing marks nets (Some (OnFiles command)) = tt
   plays_nothing marks nets (Some (KeyDeal words)) = tt
+  plays_nothing marks nets (Some (Check words)) = tt
   plays_nothing marks nets (Some (Early words)) = tt
   plays_nothing marks nets (Some (Run words)) = tt
   plays_nothing marks nets (Some (Host words)) = Plainly Memory (NotLoaded Memory (record {
@@ -132,6 +140,7 @@ module _ (files : FilesView) (out : SinkView) where
   pub keys_nothing : (marks : MarksView) (form : Option Command) → KeysForm form files files marks marks out out Memory
   keys_nothing marks None = tt
   keys_nothing marks (Some (OnFiles command)) = tt
+  keys_nothing marks (Some (Check words)) = tt
   keys_nothing marks (Some (Early words)) = tt
   keys_nothing marks (Some (Host words)) = tt
   keys_nothing marks (Some (Run words)) = tt
@@ -142,10 +151,31 @@ module _ (files : FilesView) (out : SinkView) where
       by (InFile name) is =
           FromFile name Memory is refl (runs_err true (file_plan words.counts name words.prefix) files files out Memory (any_memory (file_plan words.counts name words.prefix) files))
 
+  pub checks_nothing : (marks : MarksView) (form : Option Command) → ChecksForm form files files marks marks out out Memory
+  checks_nothing marks None = tt
+  checks_nothing marks (Some (OnFiles command)) = tt
+  checks_nothing marks (Some (KeyDeal words)) = tt
+  checks_nothing marks (Some (Early words)) = tt
+  checks_nothing marks (Some (Host words)) = tt
+  checks_nothing marks (Some (Run words)) = tt
+  checks_nothing marks (Some (Check words)) = NotRead Memory (NoProgram Memory (record {
+    later = omega arith;
+    ends = tt;
+    fault = λ name e. absurd (cc e);
+    last = λ t name e. absurd (cc e);
+    still_told = λ t. t;
+    contents = λ t. refl;
+    front = λ t. same_within files.asked files.asked (Fetch words.program ∷ []) refl;
+    whole = λ t. tt;
+    given = λ t. tt;
+    cause = λ t. tt;
+  })) refl refl
+
   pub spawns_nothing : (spawner : SpawnerView) (form : Option Command) → SpawnsForm form files files out out spawner spawner Memory
   spawns_nothing spawner None = tt
   spawns_nothing spawner (Some (OnFiles command)) = tt
   spawns_nothing spawner (Some (KeyDeal words)) = tt
+  spawns_nothing spawner (Some (Check words)) = tt
   spawns_nothing spawner (Some (Early words)) = tt
   spawns_nothing spawner (Some (Host words)) = tt
   spawns_nothing spawner (Some (Run words)) = record {
@@ -188,6 +218,9 @@ module _ (files : FilesView) (out : SinkView) where
   pub keys_refused : (marks : MarksView) (form : Option Command) → form ≡ None → KeysForm form files files marks marks out out Usage
   keys_refused marks form none = subst (λ (f : Option Command). KeysForm f files files marks marks out out Usage) (sym none) tt
 
+  pub checks_refused : (marks : MarksView) (form : Option Command) → form ≡ None → ChecksForm form files files marks marks out out Usage
+  checks_refused marks form none = subst (λ (f : Option Command). ChecksForm f files files marks marks out out Usage) (sym none) tt
+
   pub spawns_refused : (spawner : SpawnerView) (form : Option Command) → form ≡ None → SpawnsForm form files files out out spawner spawner Usage
   spawns_refused spawner form none = subst (λ (f : Option Command). SpawnsForm f files files out out spawner spawner Usage) (sym none) tt
 
@@ -198,6 +231,9 @@ host_speaks command words is e = let wrong : true ≡ false = sym (ap (λ (k : C
 
 pub host_marks : (command : Command) (words : HostWords) → command ≡ Host words → marks_by (Some command) ≡ false → ⊥
 host_marks command words is e = let wrong : true ≡ false = sym (ap (λ (k : Command). marks_by (Some k)) is) ∙ e in cc
+
+pub check_marks : (command : Command) (words : CheckWords) → command ≡ Check words → marks_by (Some command) ≡ false → ⊥
+check_marks command words is e = let wrong : true ≡ false = sym (ap (λ (k : Command). marks_by (Some k)) is) ∙ e in cc
 
 pub key_marks : (command : Command) (words : KeyDealWords) → command ≡ KeyDeal words → marks_by (Some command) ≡ false → ⊥
 key_marks command words is e = let wrong : true ≡ false = sym (ap (λ (k : Command). marks_by (Some k)) is) ∙ e in cc
@@ -228,6 +264,7 @@ pub marked_all : (files files_now : FilesView) (marks marks_now : MarksView) (ne
 marked_all files files_now marks marks_now nets nets_now out out_now status None plays = tt
 marked_all files files_now marks marks_now nets nets_now out out_now status (Some (OnFiles command)) plays = tt
 marked_all files files_now marks marks_now nets nets_now out out_now status (Some (KeyDeal words)) plays = tt
+marked_all files files_now marks marks_now nets nets_now out out_now status (Some (Check words)) plays = tt
 marked_all files files_now marks marks_now nets nets_now out out_now status (Some (Early words)) plays = tt
 marked_all files files_now marks marks_now nets nets_now out out_now status (Some (Run words)) plays = tt
 marked_all files files_now marks marks_now nets nets_now out out_now status (Some (Host words)) plays = used_once words files files_now marks marks_now nets nets_now out out_now status plays
@@ -237,6 +274,7 @@ pub seals : (files files_now : FilesView) (marks marks_now : MarksView) (nets ne
 seals files files_now marks marks_now nets nets_now out out_now status None plays = tt
 seals files files_now marks marks_now nets nets_now out out_now status (Some (OnFiles command)) plays = tt
 seals files files_now marks marks_now nets nets_now out out_now status (Some (KeyDeal words)) plays = tt
+seals files files_now marks marks_now nets nets_now out out_now status (Some (Check words)) plays = tt
 seals files files_now marks marks_now nets nets_now out out_now status (Some (Early words)) plays = tt
 seals files files_now marks marks_now nets nets_now out out_now status (Some (Run words)) plays = tt
 seals files files_now marks marks_now nets nets_now out out_now status (Some (Host words)) plays = are_sealed words files files_now marks marks_now nets nets_now out out_now status plays
@@ -263,6 +301,7 @@ module _ (files : FilesView) (marks : MarksView) (out err : SinkView) (nets : Ne
     early = early_nothing files out form;
     host = plays_nothing files out marks nets form;
     used_once = marked_all files files marks marks nets nets out out Memory form (plays_nothing files out marks nets form);
+    checked = checks_nothing files out marks form;
     keyed = keys_nothing files out marks form;
     hosts = spawns_nothing files out spawner form;
     err_untouched = refl;
@@ -280,6 +319,7 @@ module _ (files : FilesView) (marks : MarksView) (out err : SinkView) (nets : Ne
     early = early_refused files out form none;
     host = plays_refused files out marks nets form none;
     used_once = marked_all files files marks marks nets nets out out Usage form (plays_refused files out marks nets form none);
+    checked = checks_refused files out marks form none;
     keyed = keys_refused files out marks form none;
     hosts = spawns_refused files out spawner form none;
     err_untouched = refl;
@@ -302,6 +342,7 @@ pub serves : (files files_now : FilesView) (marks marks_now : MarksView) (nets n
 serves files files_now marks marks_now nets nets_now out out_now status None plays = tt
 serves files files_now marks marks_now nets nets_now out out_now status (Some (OnFiles command)) plays = tt
 serves files files_now marks marks_now nets nets_now out out_now status (Some (KeyDeal words)) plays = tt
+serves files files_now marks marks_now nets nets_now out out_now status (Some (Check words)) plays = tt
 serves files files_now marks marks_now nets nets_now out out_now status (Some (Early words)) plays = tt
 serves files files_now marks marks_now nets nets_now out out_now status (Some (Run words)) plays = tt
 serves files files_now marks marks_now nets nets_now out out_now status (Some (Host words)) plays = serves_host words files files_now marks marks_now nets nets_now out out_now status plays
@@ -311,6 +352,7 @@ pub reports : (files files_now : FilesView) (out out_now : SinkView) (spawner sp
 reports files files_now out out_now spawner spawner_now status None spawned = tt
 reports files files_now out out_now spawner spawner_now status (Some (OnFiles command)) spawned = tt
 reports files files_now out out_now spawner spawner_now status (Some (KeyDeal words)) spawned = tt
+reports files files_now out out_now spawner spawner_now status (Some (Check words)) spawned = tt
 reports files files_now out out_now spawner spawner_now status (Some (Early words)) spawned = tt
 reports files files_now out out_now spawner spawner_now status (Some (Host words)) spawned = tt
 reports files files_now out out_now spawner spawner_now status (Some (Run words)) spawned = complete words (outside files out spawner) (outside files_now out_now spawner_now) status spawned

@@ -1,4 +1,4 @@
--- The commands that run hosts: `host` runs one over a net, and `run` runs all of a source as children.
+-- The commands that run hosts: `host` runs one over a net, `check` looks at its files before, and `run` runs all of a source as children.
 use Rattle.std.specs.Prelude.{ℕ, Bool, true, false, List, Option, Some}
 use Rattle.vd_outside.specs.Files.{FilesView}
 use Rattle.vd_outside.specs.Marks.{MarksView}
@@ -6,8 +6,9 @@ use Rattle.vd_outside.specs.Sink.{SinkView}
 use Rattle.vd_outside.specs.Spawner.{SpawnerView}
 use Rattle.vd_cmd.specs.Commands.{form_of}
 use Rattle.vd_cmd.specs.declared.command.Command.{Command}
-use Rattle.vd_cmd.specs.declared.command.Command.TheVariants.{Host, KeyDeal, Run}
+use Rattle.vd_cmd.specs.declared.command.Command.TheVariants.{Check, Host, KeyDeal, Run}
 use Rattle.vd_cmd_plan.specs.declared.status.Status.{Status}
+use Rattle.vd_cmd_host.specs.Checking.{HostChecks}
 use Rattle.vd_cmd_host.specs.Hosts.{HostRuns, NetsView}
 use Rattle.vd_cmd_host.specs.Once.{UsesOnce}
 use Rattle.vd_cmd_host.specs.Sealing.{SealsByDeal}
@@ -34,6 +35,7 @@ speaks words = speaks_by (form_of words)
 -- whether the words are those of a command that may use marks
 abbrev pub marks_by : Option Command → Bool
 marks_by (Some (Host words)) = true
+marks_by (Some (Check words)) = true
 marks_by (Some (KeyDeal words)) = true
 marks_by other = false
 
@@ -72,6 +74,14 @@ SealsForm other files files_now marks nets nets_now = Unit {0}
 
 abbrev pub SealsWords : List (List ℕ) → FilesView → FilesView → MarksView → NetsView → NetsView → Type 0
 SealsWords words files files_now marks nets nets_now = SealsForm (form_of words) files files_now marks nets nets_now
+
+-- The files of a host are read, and the mark of its deal is looked for: what it takes at most, what there is and whether the deal was used is printed.
+abbrev pub ChecksForm : Option Command → FilesView → FilesView → MarksView → MarksView → SinkView → SinkView → Status → Type 0
+ChecksForm (Some (Check words)) files files_now marks marks_now out out_now status = HostChecks words files files_now marks marks_now out out_now status
+ChecksForm other files files_now marks marks_now out out_now status = Unit {0}
+
+abbrev pub ChecksWords : List (List ℕ) → FilesView → FilesView → MarksView → MarksView → SinkView → SinkView → Status → Type 0
+ChecksWords words files files_now marks marks_now out out_now status = ChecksForm (form_of words) files files_now marks marks_now out out_now status
 
 -- A key of 32 bytes is drawn or read, and the deal that it makes is stored.
 abbrev pub KeysForm : Option Command → FilesView → FilesView → MarksView → MarksView → SinkView → SinkView → Status → Type 0

@@ -16,7 +16,7 @@ use Rattle.vd_top.specs.Early.{EarlyByWords, EarlyForm}
 use Rattle.vd_top.specs.Counts.{CountedForm, KeepsCount, counts_packets, counts_packets_by}
 use Rattle.vd_top.specs.Commands.{CompletesWords, RunsForm, RunsWords}
 use Rattle.vd_top.specs.Headline.{KeepsAccepted, KeepsDependence, KeepsExcuse, KeepsHeadline, KeepsInfluence, KeepsNeeds, KeepsTrial, ShowsForm}
-use Rattle.vd_top.specs.Hosts.{KeysForm, KeysWords, MarksForm, MarksWords, PlaysForm, PlaysWords, ReportsWords, SealsWords, ServesWords, SpawnsForm, SpawnsWords}
+use Rattle.vd_top.specs.Hosts.{ChecksForm, ChecksWords, KeysForm, KeysWords, MarksForm, MarksWords, PlaysForm, PlaysWords, ReportsWords, SealsWords, ServesWords, SpawnsForm, SpawnsWords}
 use Rattle.vd_top.specs.Hosts.{marks_by, may_mark, speaks, spawns, spawns_by}
 use Rattle.vd_top.specs.declared.outside.Outside.{Outside}
 
@@ -44,7 +44,7 @@ around before now files marks out err nets spawner = record {
 }
 
 -- What is done by the form of the words, which words that are no command do not have: what each command promises of itself, before
--- anything is concluded from it. Each of the first nine fields says nothing of forms but its own.
+-- anything is concluded from it. Each of the first ten fields says nothing of forms but its own.
 pub record Does (form : Option Command) (o : Around) (status : Status) : Type 0 where
   -- the whole of the plan of a command on files, or the refusal of words without a form
   pub runs : RunsForm form o.files.0 o.files.1 o.out.0 o.out.1 status
@@ -60,6 +60,8 @@ pub record Does (form : Option Command) (o : Around) (status : Status) : Type 0 
   pub host : PlaysForm form o.files.0 o.files.1 o.marks.0 o.marks.1 o.nets.0 o.nets.1 o.out.0 o.out.1 status
   -- its deal's mark, where something went out behind the greetings
   pub used_once : MarksForm form o.files.0 o.files.1 o.marks.0 o.marks.1 o.nets.0 o.nets.1
+  -- `check`
+  pub checked : ChecksForm form o.files.0 o.files.1 o.marks.0 o.marks.1 o.out.0 o.out.1 status
   -- `deal` by a key of 32 bytes
   pub keyed : KeysForm form o.files.0 o.files.1 o.marks.0 o.marks.1 o.out.0 o.out.1 status
   -- `run`
@@ -71,7 +73,7 @@ pub record Does (form : Option Command) (o : Around) (status : Status) : Type 0 
   pub spawner_untouched : spawns_by form ≡ false → o.spawner.1 ≡ o.spawner.0
   pub packets_untouched : counts_packets_by form ≡ false → o.packets.1 ≡ o.packets.0
 
--- What holds of all words: the line of the status is said; `host` and `deal` by a key of 32 bytes alone use marks, `run` alone starts
+-- What holds of all words: the line of the status is said; `host`, `check` and `deal` by a key of 32 bytes alone use marks, `run` alone starts
 -- programs, and `replay` alone counts packets.
 pub record Leaves (words : List (List ℕ)) (o : Around) (status : Status) : Type 0 where
   -- on the error stream, where it is no good end
@@ -126,6 +128,8 @@ pub record Keeps (words : List (List ℕ)) (o : Around) (status : Status) : Type
   pub used_once : MarksWords words o.files.0 o.files.1 o.marks.0 o.marks.1 o.nets.0 o.nets.1
   -- With a deal of version 2 nothing has gone out but greetings and records with the keys of its links.
   pub sealed : SealsWords words o.files.0 o.files.1 o.marks.0 o.nets.0 o.nets.1
+  -- `check` has read the files of a host, looked for the mark of its deal, and printed what the host takes at most and what there is.
+  pub checked : ChecksWords words o.files.0 o.files.1 o.marks.0 o.marks.1 o.out.0 o.out.1 status
   -- Where the key of 32 bytes came from, and which files `deal` stored for it.
   pub keyed : KeysWords words o.files.0 o.files.1 o.marks.0 o.marks.1 o.out.0 o.out.1 status
   -- Which children `run` started, with which words, what was read of each, and what was reported.
