@@ -86,7 +86,8 @@ Of the program itself:
 
 SOURCE, INPUTS, CERT, SCHEDULE, PROGRAM and DEAL are files. A run that does not end well writes a line that begins
 'viaduct: ' to standard error, and ends with the status that belongs to it. At a terminal, and elsewhere where the
-variable VIADUCT_REASONS is set, a second line says why the system refused a file, a program or a link.
+variable VIADUCT_REASONS is set, more lines say where in a file the fault is, or why the system refused a file, a
+program or a link.
 
 statuses:
   0   the run ended well

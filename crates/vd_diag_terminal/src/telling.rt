@@ -19,6 +19,8 @@ use vd_outside::{FetchFault, Files, Sink, write_all};
 pub enum Destination {
     /// Into a file or a pipe, which get the line of a status and no more.
     File,
+    /// Into a file or a pipe of somebody who asks for more, without colours.
+    Asked,
     /// To a terminal, with colours or without.
     Terminal { coloured: bool },
 }
@@ -140,7 +142,7 @@ fn say_at_terminal<F: Files, E: Sink>(
     Ok(())
 }
 
-/// Says more of a status to the person at a terminal: the text that belongs to it, where there is one. At most one file is
+/// Says more of a status to the person at a terminal, and elsewhere to whom asks: the text that belongs to it, where there is one. At most one file is
 /// fetched for it, and none is stored. It is refused where there is no memory for the text; then nothing is written.
 pub fn say_more<F: Files, E: Sink>(
     alloc: Global,
@@ -154,6 +156,7 @@ pub fn say_more<F: Files, E: Sink>(
 {
     match destination {
         Destination::File => Ok(()),
+        Destination::Asked => say_at_terminal(alloc, false, words, files, err, status),
         Destination::Terminal { coloured } => {
             say_at_terminal(alloc, coloured, words, files, err, status)
         }

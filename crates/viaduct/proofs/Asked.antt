@@ -41,4 +41,5 @@ reasons_asked = record {
   no_text = λ caller status told readable is.
       fault_told caller status is ∙ ap (λ (t : Bool). fault_telling t caller.readable) told ∙ ap (λ (t : Bool). fault_telling true t) readable;
   file = λ caller file. ap success_telling file;
+  elsewhere = λ caller asked. ap success_telling asked;
 }

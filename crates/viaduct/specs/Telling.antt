@@ -7,7 +7,7 @@ use Rattle.vd_shell.specs.Reasons.{reason_line}
 use Rattle.vd_shell.specs.Telling.{Tells, fault_lines, success_lines}
 use Rattle.vd_shell.specs.declared.telling.Reasons.{Reasons}
 use Rattle.vd_diag_terminal.specs.declared.telling.Destination.{Destination}
-use Rattle.vd_diag_terminal.specs.declared.telling.Destination.TheVariants.{File, Terminal}
+use Rattle.vd_diag_terminal.specs.declared.telling.Destination.TheVariants.{Asked, File, Terminal}
 use Rattle.viaduct.specs.declared.caller.Caller.{Caller}
 use Rattle.viaduct.specs.declared.caller.Telling.{Telling}
 use Rattle.viaduct.specs.declared.caller.Telling.TheVariants as telling
@@ -20,6 +20,7 @@ words_in (Some words) = words
 -- Of a run that ended well a person at a terminal is told the packets. Of another one the reasons are told to whom asked for them.
 abbrev pub success_telling : Destination → Telling
 success_telling (Terminal coloured) = telling.Packets
+success_telling Asked = telling.Nothing
 success_telling File = telling.Nothing
 
 abbrev pub fault_telling : (told readable : Bool) → Telling
@@ -60,3 +61,4 @@ pub record ReasonsAreAsked : Type 0 where
   pub no_text : (caller : Caller) (status : Status) → caller.told ≡ true → caller.readable ≡ false → status ≢ Ended
       → telling_of caller status ≡ telling.NoText
   pub file : (caller : Caller) → caller.destination ≡ File → telling_of caller Ended ≡ telling.Nothing
+  pub elsewhere : (caller : Caller) → caller.destination ≡ Asked → telling_of caller Ended ≡ telling.Nothing

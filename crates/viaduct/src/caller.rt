@@ -74,7 +74,7 @@ fn success_telling(destination: Destination) -> Telling
 {
     match destination {
         Destination::Terminal { .. } => Telling::Packets,
-        Destination::File => Telling::Nothing,
+        Destination::Asked | Destination::File => Telling::Nothing,
     }
 }
 

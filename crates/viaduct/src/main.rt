@@ -1,5 +1,5 @@
 //! The program: makes the real objects, and ends with the code that the top call gives over them. Where standard error is a
-//! terminal, more is then said of a fault to the person who sits there.
+//! terminal, or a variable asks for it, more is then said of a fault.
 #![tactic(auto)]
 
 mod caller;
@@ -34,15 +34,20 @@ fn arguments(rt: &(impl Env + AllocGlobal)) -> io::Result<Option<Vec<String>>> {
     }
 }
 
+/// Whether a variable asks for more than the line of a status.
+fn asks_for_more(rt: &(impl Env + AllocGlobal)) -> bool {
+    env::var(rt, REASONS).is_ok()
+}
+
 /// Where standard error goes, and whether there in colours.
 fn destination(rt: &(impl Env + AllocGlobal), stream: &Stderr) -> Destination {
     let coloured = matches!(env::var(rt, "NO_COLOR"), Err(VarError::NotPresent));
-    destination_of(stream.is_terminal(), coloured)
+    destination_of(stream.is_terminal(), coloured, asks_for_more(rt))
 }
 
 /// Whether a person is told why a call of the outside failed: at a terminal, and where a variable asks for it.
 fn tells_reasons(rt: &(impl Env + AllocGlobal), stream: &Stderr) -> bool {
-    stream.is_terminal() || env::var(rt, REASONS).is_ok()
+    stream.is_terminal() || asks_for_more(rt)
 }
 
 /// The number of the process whose end ends the waits of this one: of the run that started it, or of a script between the two.

@@ -4,7 +4,7 @@ ghost use Rattle.std.specs.Prelude.{◌≡◌, ◌≤◌, IfOk, drop, if◌then�
 ghost use Rattle.std.specs.Process.{exit_status};
 ghost use Rattle.vd_cmd_host.specs.Hosts.{nets_of};
 ghost use Rattle.vd_cmd_plan.specs.Lines.{Says, code_of, status_line};
-ghost use Rattle.vd_diag_terminal.specs.declared.telling.Destination.TheVariants.{File, Terminal};
+ghost use Rattle.vd_diag_terminal.specs.declared.telling.Destination.TheVariants.{Asked, File, Terminal};
 ghost use Rattle.vd_top.specs.Promises.{around};
 ghost use Rattle.viaduct.specs.Program.{IsRun, RunsOver};
 
@@ -40,12 +40,15 @@ pub(crate) fn words_of(alloc: Global, arguments: &[String]) -> Result<Texts, All
     }
 }
 
-/// Where an error stream goes, by whether a terminal is behind it, and whether colours are wanted there.
-pub(crate) fn destination_of(is_terminal: bool, coloured: bool) -> Destination
-    ensures { result ≡ (if is_terminal then Terminal coloured else File) }
+/// Where an error stream goes, by whether a terminal is behind it, whether colours are wanted there, and whether more is asked for
+/// elsewhere.
+pub(crate) fn destination_of(is_terminal: bool, coloured: bool, asked: bool) -> Destination
+    ensures { result ≡ (if is_terminal then Terminal coloured else if asked then Asked else File) }
 {
     if is_terminal {
         Destination::Terminal { coloured }
+    } else if asked {
+        Destination::Asked
     } else {
         Destination::File
     }
@@ -65,8 +68,8 @@ pub(crate) struct Ending {
     pub packets: Option<u64>,
 }
 
-/// Runs a command line over these objects, and says how that ended; where the error stream goes to a terminal, it then says
-/// more of a fault.
+/// Runs a command line over these objects, and says how that ended. Where the error stream goes to a terminal, and where more is asked
+/// for, it then says more of a fault.
 fn start_over<F: Files, M: Marks, O: Sink, E: Sink, N: Net + Drop, S: Spawner>(
     alloc: Global,
     destination: Destination,

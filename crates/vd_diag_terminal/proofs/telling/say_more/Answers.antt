@@ -6,3 +6,6 @@ returns-in-File g c = rw c.in-File.is (refl, refl, refl)
 
 pub returns-in-Terminal : goal.returns-in-Terminal
 returns-in-Terminal g c = rw c.in-Terminal.is c.say_at_terminal.ensures
+
+pub returns-in-Asked : goal.returns-in-Asked
+returns-in-Asked g c = rw c.in-Asked.is c.say_at_terminal.ensures
