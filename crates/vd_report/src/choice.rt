@@ -53,8 +53,8 @@ fn push_slot(
     text.extend_from_slice(b"\n")
 }
 
-/// Puts a protocol at the end.
-fn push_protocol(text: &mut Bytes, hosts: &Names, protocol: Proto) -> Result<(), AllocError>
+/// Puts a protocol at the end: its word and the names of its hosts.
+pub fn push_protocol(text: &mut Bytes, hosts: &Names, protocol: Proto) -> Result<(), AllocError>
     ensures { OnOk result (text.new ≡ text.old ++ protocol_text hosts.now protocol) }
 {
     match protocol {

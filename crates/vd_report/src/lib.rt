@@ -13,7 +13,7 @@ mod reports;
 mod schedule;
 mod token;
 
-pub use choice::choice_text;
+pub use choice::{choice_text, push_protocol};
 pub use fault::ReadFault;
 pub use hosts::{host_of, name_of};
 pub use inputs::{inputs_follow_the_grammar, read_inputs};
