@@ -7,6 +7,10 @@ use Rattle.vd_diag.specs.Shown.{shown, width}
 abbrev pub column : List ℕ → ℕ → ℕ
 column bytes offset = width (line_before bytes offset) + 1
 
+-- `LINE:COLUMN`
+abbrev pub spot : List ℕ → ℕ → List ℕ
+spot bytes offset = decimal (line_number bytes offset) ++ codes ":" ++ decimal (column bytes offset)
+
 -- in bold, if colours are wanted
 abbrev pub bold : Bool → List ℕ → List ℕ
 bold coloured text = if coloured then codes "\u{1b}[1m" ++ text ++ codes "\u{1b}[0m" else text

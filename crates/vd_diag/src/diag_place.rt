@@ -4,5 +4,5 @@ mod excerpts;
 mod lines;
 mod terminal;
 
-pub use excerpts::{excerpt, headline};
+pub use excerpts::{excerpt, headline, spot};
 pub use lines::{line_behind, line_number};

@@ -13,7 +13,7 @@ mod tables;
 mod telling;
 mod usage;
 
-pub use diag_place::{excerpt, headline, line_behind, line_number};
+pub use diag_place::{excerpt, headline, line_behind, line_number, spot};
 pub use fault::TellFault;
 pub use files::{
     certificate_sentence, deal_sentence, host_sentence, no_assignment_sentence, program_sentence,

@@ -10,6 +10,20 @@ use std::alloc::{AllocError, Global};
 use unicode_width::UnicodeWidthStr;
 use vd_base::Bytes;
 
+/// `LINE:COLUMN` of an offset of a text. Columns are those of a terminal, from 1.
+pub fn spot(alloc: Global, bytes: &[u8], offset: usize) -> Result<Bytes, AllocError>
+    ensures { IfOk result (λ text. text ≡ excerpts.spot bytes.now offset) }
+{
+    let before = shown(alloc, line_before(bytes, offset))?;
+    let line = line_number(bytes, offset);
+    let column = before.as_str().width() + 1;
+    let mut text = Bytes::new(alloc);
+    text.extend_from_slice(Buffer::new().format(line as u64).as_bytes())?;
+    text.extend_from_slice(b":")?;
+    text.extend_from_slice(Buffer::new().format(column as u64).as_bytes())?;
+    Ok(text)
+}
+
 /// Puts `FILE:LINE:COLUMN:` at the end.
 fn push_place(text: &mut Bytes, file: &str, line: usize, column: usize) -> Result<(), AllocError>
     ensures { OnOk result (text.new ≡ text.old ++ excerpts.place file.now line column) }
