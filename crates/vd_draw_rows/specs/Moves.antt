@@ -110,6 +110,11 @@ right_moves list n x (Endorse y to) = one_move list y (proto_in list x.0)
 right_moves list n x (Load v) = one_move list v (proto_in list x.0)
 right_moves list n x (Get v i) = element_moves list n v i (move_of list v (proto_in list x.0))
 
+-- an element of an array is read: all of the words but the last are its index
+abbrev pub is_indexed : Right → Bool
+is_indexed (Get v i) = true
+is_indexed other = false
+
 -- what the operation costs at a protocol
 abbrev pub operation_of : Right → Proto → ℕ
 operation_of (Apply o ys) p = unwrap_or (op_cost_at o p) 0

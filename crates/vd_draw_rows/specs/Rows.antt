@@ -1,5 +1,5 @@
 -- The rows of a drawing: one fold over the statements of a program.
-use Rattle.std.specs.Prelude.{ℕ, ◌+◌, ◌-◌, ◌*◌, ◌^◌, ◌||◌, min, Some, None, List, [], ◌∷◌, ◌++◌, map, length, codes}
+use Rattle.std.specs.Prelude.{ℕ, ◌+◌, ◌-◌, ◌*◌, ◌^◌, true, false, ◌||◌, min, Some, None, List, [], ◌∷◌, ◌++◌, map, length, codes}
 use Rattle.std.specs.List.{flat_map}
 use Rattle.vd_base.specs.declared.ids.HostId.{HostId}
 use Rattle.vd_base.specs.declared.ids.SlotId.{SlotId}
@@ -17,7 +17,7 @@ use Rattle.vd_draw_rows.specs.declared.row.Move.{Move}
 use Rattle.vd_draw_rows.specs.declared.row.Row.{Row}
 use Rattle.vd_draw_rows.specs.Lines.{line_at, slot_line}
 use Rattle.vd_draw_rows.specs.Texts.{binding_text, variable_text, array_text, store_text, put_text, output_text, branch_text, loop_text}
-use Rattle.vd_draw_rows.specs.Moves.{move_of, one_move, told_to, element_moves, right_moves, operation_of, is_part}
+use Rattle.vd_draw_rows.specs.Moves.{move_of, one_move, told_to, element_moves, right_moves, is_indexed, operation_of, is_part}
 
 -- what a statement brings: its rows, where it is done so often and so deep, the slots that it names, and the hosts that it tells something
 pub record Drawn : Type 0 where
@@ -39,21 +39,23 @@ abbrev pub deeper : ℕ → ℕ
 deeper depth = min (depth + 1) (2 ^ 32 - 1)
 
 abbrev pub otherwise_row : ℕ → ℕ → Row
-otherwise_row weight depth = record { kind = kind.Otherwise; depth = depth; slot = None; line = None; at = None; text = codes "else"; moves = []; operation = 0; weight = weight }
+otherwise_row weight depth = record { kind = kind.Otherwise; depth = depth; offset = None; slot = None; line = None; at = None; text = codes "else"; moves = []; indexed = false; operation = 0; weight = weight }
 
 abbrev pub loop_row : ℕ → ℕ → ℕ → Row
-loop_row weight depth count = record { kind = kind.Loop; depth = depth; slot = None; line = None; at = None; text = loop_text count; moves = []; operation = 0; weight = weight }
+loop_row weight depth count = record { kind = kind.Loop; depth = depth; offset = None; slot = None; line = None; at = None; text = loop_text count; moves = []; indexed = false; operation = 0; weight = weight }
 
 module _ (source : List ℕ) (p : NormalForm) (list : List Proto) where
   abbrev pub binding_row : ℕ → ℕ → SlotId → Right → Row
   binding_row weight depth x right = record {
     kind = kind.Binding;
     depth = depth;
+    offset = None;
     slot = Some x;
     line = slot_line source p.slots x (binding_text p.hosts p.slots x right);
     at = Some (proto_in list x.0);
     text = binding_text p.hosts p.slots x right;
     moves = right_moves list (length p.hosts) x right;
+    indexed = is_indexed right;
     operation = operation_of right (proto_in list x.0);
     weight = weight;
   }
@@ -62,11 +64,13 @@ module _ (source : List ℕ) (p : NormalForm) (list : List Proto) where
   variable_row weight depth v y = record {
     kind = kind.Variable;
     depth = depth;
+    offset = None;
     slot = Some v;
     line = slot_line source p.slots v (variable_text p.slots v y);
     at = Some (proto_in list v.0);
     text = variable_text p.slots v y;
     moves = one_move list y (proto_in list v.0);
+    indexed = false;
     operation = 0;
     weight = weight;
   }
@@ -75,11 +79,13 @@ module _ (source : List ℕ) (p : NormalForm) (list : List Proto) where
   array_row weight depth v cells = record {
     kind = kind.Variable;
     depth = depth;
+    offset = None;
     slot = Some v;
     line = slot_line source p.slots v (array_text p.slots v cells);
     at = Some (proto_in list v.0);
     text = array_text p.slots v cells;
     moves = [];
+    indexed = false;
     operation = 0;
     weight = weight;
   }
@@ -88,11 +94,13 @@ module _ (source : List ℕ) (p : NormalForm) (list : List Proto) where
   store_row weight depth v y = record {
     kind = kind.Store;
     depth = depth;
+    offset = None;
     slot = None;
     line = None;
     at = Some (proto_in list v.0);
     text = store_text p.slots v y;
     moves = one_move list y (proto_in list v.0);
+    indexed = false;
     operation = 0;
     weight = weight;
   }
@@ -101,11 +109,13 @@ module _ (source : List ℕ) (p : NormalForm) (list : List Proto) where
   put_row weight depth v i y = record {
     kind = kind.Store;
     depth = depth;
+    offset = None;
     slot = None;
     line = None;
     at = Some (proto_in list v.0);
     text = put_text p.slots v i y;
     moves = element_moves list (length p.hosts) v i (move_of list y (proto_in list v.0));
+    indexed = true;
     operation = 0;
     weight = weight;
   }
@@ -114,11 +124,13 @@ module _ (source : List ℕ) (p : NormalForm) (list : List Proto) where
   output_row weight depth y h offset = record {
     kind = kind.Output;
     depth = depth;
+    offset = Some offset;
     slot = None;
     line = line_at source offset (output_text p.hosts p.slots y h);
     at = Some (Local h);
     text = output_text p.hosts p.slots y h;
     moves = one_move list y (Local h);
+    indexed = false;
     operation = 0;
     weight = weight;
   }
@@ -131,11 +143,13 @@ module _ (source : List ℕ) (p : NormalForm) (list : List Proto) where
   branch_row weight depth g first other offset = record {
     kind = kind.Branch;
     depth = depth;
+    offset = Some offset;
     slot = None;
     line = line_at source offset (branch_text p.slots g);
     at = None;
     text = branch_text p.slots g;
     moves = guard_moves g first other;
+    indexed = false;
     operation = 0;
     weight = weight;
   }

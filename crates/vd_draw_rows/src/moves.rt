@@ -223,6 +223,13 @@ pub(crate) fn right_moves(
     }
 }
 
+/// Whether a right side reads an element of an array: all of the words but the last that are moved for it are the index.
+pub(crate) fn is_indexed(right: &Right) -> bool
+    ensures { result ≡ moves_spec.is_indexed right.now }
+{
+    matches!(right, Right::Get(_, _))
+}
+
 /// What the operation of a right side costs at a protocol.
 pub(crate) fn operation_cost(right: &Right, at: Proto) -> u32
     ensures { result ≡ moves_spec.operation_of right.now at }

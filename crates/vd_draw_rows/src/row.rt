@@ -68,6 +68,8 @@ pub struct Row {
     pub kind: Kind,
     /// In how many blocks it stands: 1 for that of the whole program.
     pub depth: u32,
+    /// Where its statement begins in the source: of a branch and of a word that is told.
+    pub offset: Option<u32>,
     /// The slot that it makes.
     pub slot: Option<SlotId>,
     /// The line of the source that says it, unless it says no more than the row.
@@ -78,6 +80,8 @@ pub struct Row {
     pub text: Bytes,
     /// The words that are moved for it, in order.
     pub moves: Items<Move>,
+    /// Whether all of these but the last are the index of an element.
+    pub indexed: bool,
     /// What its operation costs, once.
     pub operation: u32,
     /// How often it is done.

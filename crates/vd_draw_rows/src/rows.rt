@@ -7,7 +7,9 @@ ghost use Rattle.vd_draw_rows.specs.Moves.{told_to, is_part};
 ghost use Rattle.vd_draw_rows.specs.Rows as rows_spec;
 
 use crate::lines::{line_at, slot_line};
-use crate::moves::{element_moves, move_of, one_move, operation_cost, right_moves, tell};
+use crate::moves::{
+    element_moves, is_indexed, move_of, one_move, operation_cost, right_moves, tell,
+};
 use crate::parts::takes_part_in_either;
 use crate::row::{Kind, Move, Row};
 use crate::texts::{
@@ -176,11 +178,13 @@ fn binding_row(
     Ok(Row {
         kind: Kind::Binding,
         depth: around.depth,
+        offset: None,
         slot: Some(slot),
         line,
         at: Some(at),
         text,
         moves: right_moves(alloc, placed.list, count_of_hosts(placed.form), slot, right)?,
+        indexed: is_indexed(right),
         operation: operation_cost(right, at),
         weight: around.weight,
     })
@@ -213,11 +217,13 @@ fn variable_row(
     Ok(Row {
         kind: Kind::Variable,
         depth: around.depth,
+        offset: None,
         slot: Some(variable),
         line,
         at: Some(at),
         text,
         moves: one_move(alloc, placed.list, value, at)?,
+        indexed: false,
         operation: 0,
         weight: around.weight,
     })
@@ -241,11 +247,13 @@ fn array_row(
     Ok(Row {
         kind: Kind::Variable,
         depth: around.depth,
+        offset: None,
         slot: Some(array),
         line,
         at: Some(proto_of(placed.list, array)),
         text,
         moves: Items::new(alloc),
+        indexed: false,
         operation: 0,
         weight: around.weight,
     })
@@ -268,11 +276,13 @@ fn store_row(
     Ok(Row {
         kind: Kind::Store,
         depth: around.depth,
+        offset: None,
         slot: None,
         line: None,
         at: Some(at),
         text,
         moves: one_move(alloc, placed.list, value, at)?,
+        indexed: false,
         operation: 0,
         weight: around.weight,
     })
@@ -298,6 +308,7 @@ fn put_row(
     Ok(Row {
         kind: Kind::Store,
         depth: around.depth,
+        offset: None,
         slot: None,
         line: None,
         at: Some(at),
@@ -310,6 +321,7 @@ fn put_row(
             index,
             last,
         )?,
+        indexed: true,
         operation: 0,
         weight: around.weight,
     })
@@ -336,11 +348,13 @@ fn output_row(
     Ok(Row {
         kind: Kind::Output,
         depth: around.depth,
+        offset: Some(offset),
         slot: None,
         line,
         at: Some(at),
         text,
         moves: one_move(alloc, placed.list, value, at)?,
+        indexed: false,
         operation: 0,
         weight: around.weight,
     })
@@ -390,11 +404,13 @@ fn branch_row(
     Ok(Row {
         kind: Kind::Branch,
         depth: around.depth,
+        offset: Some(offset),
         slot: None,
         line,
         at: None,
         text,
         moves: guard_moves(alloc, placed, guard, first, other)?,
+        indexed: false,
         operation: 0,
         weight: around.weight,
     })
@@ -407,11 +423,13 @@ fn otherwise_row(alloc: Global, around: Around) -> Result<Row, AllocError>
     Ok(Row {
         kind: Kind::Otherwise,
         depth: around.depth,
+        offset: None,
         slot: None,
         line: None,
         at: None,
         text: Bytes::from_slice(alloc, b"else")?,
         moves: Items::new(alloc),
+        indexed: false,
         operation: 0,
         weight: around.weight,
     })
@@ -426,11 +444,13 @@ fn loop_row(alloc: Global, around: Around, count: u32) -> Result<Row, AllocError
     Ok(Row {
         kind: Kind::Loop,
         depth: around.depth,
+        offset: None,
         slot: None,
         line: None,
         at: None,
         text,
         moves: Items::new(alloc),
+        indexed: false,
         operation: 0,
         weight: around.weight,
     })
