@@ -22,7 +22,7 @@ _viaduct() {
   read -r -a form < <(sed -n "s/^  viaduct ${COMP_WORDS[1]//[^a-z-]/} //p" <<< "$help" | sed 's/  .*//')
   wanted=${form[COMP_CWORD - 2]:-}
   case $wanted in
-    HOST)
+    HOST | '[HOST]')
       mapfile -t COMPREPLY < <(compgen -W \
         "$(sed -n 's/^ *host  *\([A-Za-z0-9_]*\).*/\1/p' "${COMP_WORDS[2]}" 2> /dev/null)" -- "$word") ;;
     '[messages]')

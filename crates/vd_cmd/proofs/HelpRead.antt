@@ -1,5 +1,9 @@
 -- The words that the help says are read so.
-use Rattle.std.proofs.Common.{refl}
+use Rattle.std.proofs.Common.{ℕ, Option, Some, None, if◌then◌else◌, refl, ap}
+use Rattle.std.specs.Prelude.{is_some}
+use Rattle.vd_base.specs.Limits.{most_search_budget}
+use Rattle.vd_cmd.specs.Commands.{reveals_of}
+use Rattle.vd_cmd.specs.Numbers.{number_within}
 use Rattle.vd_cmd.specs.HelpRead.{HelpIsRead}
 
 pub help_read : HelpIsRead
@@ -8,6 +12,9 @@ help_read = record {
   labels = λ a. refl;
   choose = λ a. refl;
   draw = λ a. refl;
+  reveals = λ a. refl;
+  reveals_to_host = λ source host none. ap (λ (n : Option ℕ). if is_some n then reveals_of source None (number_within 1 most_search_budget host) else reveals_of source (Some host) (Some most_search_budget)) none;
+  reveals_within = λ source host word budget is. ap (reveals_of source (Some host)) is;
   compile = λ a b. refl;
   early = λ a b. refl;
   needs = λ a. refl;

@@ -1,5 +1,5 @@
 -- The forms of a command line.
-use Rattle.std.specs.Prelude.{◌≡◌, ◌↔◌, ◌<◌, ◌≤◌, ℕ, ◌-◌, ◌^◌, Bool, true, false, ◌&&◌, List, [], ◌∷◌, Option, Some, None, Result, Err, IfOk, IfSome, if◌then◌else◌, codes, nat_eq}
+use Rattle.std.specs.Prelude.{◌≡◌, ◌↔◌, ◌<◌, ◌≤◌, ℕ, ◌-◌, ◌^◌, Bool, true, false, ◌&&◌, List, [], ◌∷◌, Option, Some, None, is_some, Result, Err, IfOk, IfSome, if◌then◌else◌, codes, nat_eq}
 use Rattle.std.specs.Str.{bytes_eq}
 use Rattle.vd_base.specs.Limits.{most_hosts, most_deal_items, most_search_budget}
 use Rattle.vd_tape.specs.declared.deal_items.deal.Counts.{Counts}
@@ -10,7 +10,7 @@ use Rattle.vd_cmd.specs.declared.command.Command.TheVariants.{OnFiles, KeyDeal, 
 use Rattle.vd_cmd.specs.declared.command.KeySource.{KeySource}
 use Rattle.vd_cmd.specs.declared.command.KeySource.TheVariants.{Drawn, InFile}
 use Rattle.vd_cmd.specs.declared.command.FilesCommand.{FilesCommand}
-use Rattle.vd_cmd.specs.declared.command.FilesCommand.TheVariants.{Clear, Labels, Choose, Draw, Certify, Compile, Needs, Hasten, Deal, Replay, Excuse, Depends, Influences, Gen, Trial}
+use Rattle.vd_cmd.specs.declared.command.FilesCommand.TheVariants.{Clear, Labels, Choose, Draw, Reveals, Certify, Compile, Needs, Hasten, Deal, Replay, Excuse, Depends, Influences, Gen, Trial}
 use Rattle.vd_cmd.specs.declared.command.CommandFault.{CommandFault}
 use Rattle.vd_cmd.specs.declared.command.CommandFault.TheVariants.{Usage}
 
@@ -66,6 +66,16 @@ choose_of source None = None
 abbrev pub draw_of : List ℕ → Option ℕ → Option Command
 draw_of source (Some budget) = Some (OnFiles (Draw source budget))
 draw_of source None = None
+
+abbrev pub reveals_of : (source : List ℕ) → (host : Option (List ℕ)) → Option ℕ → Option Command
+reveals_of source host (Some budget) = Some (OnFiles (Reveals (record { source = source; host = host; budget = budget })))
+reveals_of source host None = None
+
+-- with one word more: a budget, where it is a number, or the name of a host
+abbrev pub reveals_with : (source other : List ℕ) → Option Command
+reveals_with source other =
+    if is_some (number_within 0 (2 ^ 64 - 1) other) then reveals_of source None (number_within 1 most_search_budget other)
+    else reveals_of source (Some other) (Some most_search_budget)
 
 abbrev pub compile_of : (source prefix : List ℕ) → Option ℕ → Option Command
 compile_of source prefix (Some budget) = Some (OnFiles (Compile source prefix budget))
@@ -131,6 +141,7 @@ fixed_form_of (word ∷ argument ∷ []) =
     if bytes_eq word (codes "labels") then Some (OnFiles (Labels argument))
     else if bytes_eq word (codes "choose") then Some (OnFiles (Choose argument most_search_budget))
     else if bytes_eq word (codes "draw") then Some (OnFiles (Draw argument most_search_budget))
+    else if bytes_eq word (codes "reveals") then reveals_of argument None (Some most_search_budget)
     else if bytes_eq word (codes "needs") then needs_of argument false (Some most_search_budget)
     else if bytes_eq word (codes "gen") then gen_of (number_within 1 most_coordinates argument)
     else if bytes_eq word (codes "trial") then trial_of (number_within 1 most_coordinates argument)
@@ -143,6 +154,7 @@ fixed_form_of (word ∷ source ∷ other ∷ []) =
     else if bytes_eq word (codes "influences") then Some (OnFiles (Influences source other))
     else if bytes_eq word (codes "choose") then choose_of source (number_within 1 most_search_budget other)
     else if bytes_eq word (codes "draw") then draw_of source (number_within 1 most_search_budget other)
+    else if bytes_eq word (codes "reveals") then reveals_with source other
     else if bytes_eq word (codes "compile") then compile_of source other (Some most_search_budget)
     else if bytes_eq word (codes "needs") then needs_with source other
     else None
@@ -150,6 +162,7 @@ fixed_form_of (word ∷ first ∷ second ∷ third ∷ []) =
     if bytes_eq word (codes "compile") then compile_with first second third
     else if bytes_eq word (codes "check") then Some (Check (record { program = first; inputs = second; deal = third }))
     else if bytes_eq word (codes "needs") && bytes_eq second (codes "each") then needs_of first true (number_within 1 most_search_budget third)
+    else if bytes_eq word (codes "reveals") then reveals_of first (Some second) (number_within 1 most_search_budget third)
     else None
 fixed_form_of (word ∷ source ∷ inputs ∷ prefix ∷ schedule ∷ []) =
     if bytes_eq word (codes "replay") then replay_of source inputs prefix schedule false (Some most_search_budget)
@@ -231,6 +244,7 @@ KeepsFilesLimits (Gen coordinates) = IsSize coordinates
 KeepsFilesLimits (Trial coordinates) = IsSize coordinates
 KeepsFilesLimits (Choose source budget) = IsBudget budget
 KeepsFilesLimits (Draw source budget) = IsBudget budget
+KeepsFilesLimits (Reveals words) = IsBudget words.budget
 KeepsFilesLimits (Compile source prefix budget) = IsBudget budget
 KeepsFilesLimits (Needs words) = IsBudget words.budget
 KeepsFilesLimits (Replay words) = IsBudget words.budget

@@ -1,10 +1,11 @@
 -- The words that the help says, read.
-use Rattle.std.specs.Prelude.{◌≡◌, ℕ, true, false, List, [], ◌∷◌, Some, None, codes}
+use Rattle.std.specs.Prelude.{◌≡◌, ℕ, ◌-◌, ◌^◌, true, false, List, [], ◌∷◌, Some, None, codes}
 use Rattle.vd_base.specs.Limits.{most_search_budget}
 use Rattle.vd_cmd.specs.Commands.{form_of}
 use Rattle.vd_cmd.specs.declared.command.Command.TheVariants.{OnFiles, Early, Host, Check}
+use Rattle.vd_cmd.specs.Numbers.{number_within}
 use Rattle.vd_cmd.specs.declared.command.FilesCommand.{FilesCommand}
-use Rattle.vd_cmd.specs.declared.command.FilesCommand.TheVariants.{Clear, Labels, Choose, Draw, Certify, Compile, Needs, Hasten, Replay, Excuse, Depends, Influences}
+use Rattle.vd_cmd.specs.declared.command.FilesCommand.TheVariants.{Clear, Labels, Choose, Draw, Reveals, Certify, Compile, Needs, Hasten, Replay, Excuse, Depends, Influences}
 
 -- the words are read as this command over files
 abbrev pub AreRead : List (List ℕ) → FilesCommand → Type 0
@@ -17,6 +18,12 @@ pub record HelpIsRead : Type 0 where
   pub labels : (source : List ℕ) → AreRead (codes "labels" ∷ source ∷ []) (Labels source)
   pub choose : (source : List ℕ) → AreRead (codes "choose" ∷ source ∷ []) (Choose source most_search_budget)
   pub draw : (source : List ℕ) → AreRead (codes "draw" ∷ source ∷ []) (Draw source most_search_budget)
+  pub reveals : (source : List ℕ)
+      → AreRead (codes "reveals" ∷ source ∷ []) (Reveals (record { source = source; host = None; budget = most_search_budget }))
+  pub reveals_to_host : (source host : List ℕ) → number_within 0 (2 ^ 64 - 1) host ≡ None
+      → AreRead (codes "reveals" ∷ source ∷ host ∷ []) (Reveals (record { source = source; host = Some host; budget = most_search_budget }))
+  pub reveals_within : (source host word : List ℕ) (budget : ℕ) → number_within 1 most_search_budget word ≡ Some budget
+      → AreRead (codes "reveals" ∷ source ∷ host ∷ word ∷ []) (Reveals (record { source = source; host = Some host; budget = budget }))
   pub compile : (source prefix : List ℕ) → AreRead (codes "compile" ∷ source ∷ prefix ∷ []) (Compile source prefix most_search_budget)
   pub early : (source prefix : List ℕ) → form_of (codes "compile" ∷ source ∷ prefix ∷ codes "early" ∷ [])
       ≡ Some (Early (record { source = source; prefix = prefix; budget = most_search_budget }))

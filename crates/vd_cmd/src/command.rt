@@ -33,6 +33,16 @@ pub struct NeedsWords {
     pub budget: u32,
 }
 
+/// The words of `reveals SOURCE [HOST] [BUDGET]`.
+#[derive(Drop)]
+pub struct RevealsWords {
+    pub source: Text,
+    /// The name of the host whose lines are printed, where one is given; else those of all hosts are.
+    pub host: Option<Text>,
+    /// How many prefixes the search may open.
+    pub budget: u32,
+}
+
 /// The words of `compile SOURCE PREFIX early [BUDGET]`.
 #[derive(Drop)]
 pub struct EarlyWords {
@@ -118,6 +128,8 @@ pub enum FilesCommand {
     Choose(Text, u32),
     /// `draw SOURCE [BUDGET]`.
     Draw(Text, u32),
+    /// `reveals SOURCE [HOST] [BUDGET]`.
+    Reveals(RevealsWords),
     /// `certify SOURCE CERT`.
     Certify(Text, Text),
     /// `compile SOURCE PREFIX [BUDGET]`.

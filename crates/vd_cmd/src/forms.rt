@@ -1,14 +1,14 @@
 //! Commands made of their words, and of the numbers that were found in them.
 
-ghost use Rattle.std.specs.Prelude.{◌≡◌, Some, IfOk, IfSome};
-ghost use Rattle.vd_cmd.specs.Commands.{Reads, AreWithin, IsBudget, IsPort, IsSize, choose_of, compile_of, deal_of, draw_of, early_of, excuse_of, gen_of, key_deal_of, needs_of, replay_of, run_of, trial_of};
+ghost use Rattle.std.specs.Prelude.{◌≡◌, None, Some, IfOk, IfSome};
+ghost use Rattle.vd_cmd.specs.Commands.{Reads, AreWithin, IsBudget, IsPort, IsSize, choose_of, compile_of, deal_of, draw_of, early_of, excuse_of, gen_of, key_deal_of, needs_of, replay_of, reveals_of, run_of, trial_of};
 ghost use Rattle.vd_cmd.specs.declared.command.Command.TheVariants.{Check, OnFiles};
 ghost use Rattle.vd_cmd.specs.declared.command.FilesCommand.TheVariants.{Clear, Certify, Hasten, Depends, Influences};
 ghost use Rattle.vd_cmd.specs.declared.command.KeySource.TheVariants.{Drawn, InFile};
 
 use crate::command::{
     CheckWords, Command, CommandFault, EarlyWords, ExcuseWords, FilesCommand, KeyDealWords,
-    KeySource, NeedsWords, ReplayWords, RunWords,
+    KeySource, NeedsWords, ReplayWords, RevealsWords, RunWords,
 };
 use std::alloc::{AllocError, Global};
 use vd_base::Text;
@@ -100,6 +100,46 @@ pub(crate) fn draw_of(
     };
     let source = Text::copy_of(alloc, source.as_str())?;
     Ok(Command::OnFiles(FilesCommand::Draw(source, budget as u32)))
+}
+
+/// The command `reveals` of all hosts with this budget, if it is given.
+pub(crate) fn reveals_all(
+    alloc: Global,
+    source: &Text,
+    budget: Option<u64>,
+) -> Result<Command, CommandFault>
+    requires { IfSome budget IsBudget }
+    ensures { Reads (reveals_of source.now None budget) result }
+{
+    let Some(budget) = budget else {
+        return Err(CommandFault::Usage);
+    };
+    Ok(Command::OnFiles(FilesCommand::Reveals(RevealsWords {
+        source: Text::copy_of(alloc, source.as_str())?,
+        host: None,
+        budget: budget as u32,
+    })))
+}
+
+/// The command `reveals` of one host with this budget, if it is given.
+pub(crate) fn reveals_one(
+    alloc: Global,
+    source: &Text,
+    host: &Text,
+    budget: Option<u64>,
+) -> Result<Command, CommandFault>
+    requires { IfSome budget IsBudget }
+    ensures { Reads (reveals_of source.now (Some host.now) budget) result }
+{
+    let Some(budget) = budget else {
+        return Err(CommandFault::Usage);
+    };
+    let (source, host) = both(alloc, source, host)?;
+    Ok(Command::OnFiles(FilesCommand::Reveals(RevealsWords {
+        source,
+        host: Some(host),
+        budget: budget as u32,
+    })))
 }
 
 /// The command `compile` with this budget, if it is given.

@@ -2,7 +2,7 @@
 
 ghost use Rattle.std.specs.Prelude.{◌≡◌};
 ghost use Rattle.std.specs.Option.{option_map};
-ghost use Rattle.vd_cmd.specs.Own.{help_of, help_of_certify, help_of_check, help_of_choose, help_of_clear, help_of_compile, help_of_deal, help_of_depends, help_of_draw, help_of_excuse, help_of_gen, help_of_hasten, help_of_host, help_of_host_within, help_of_influences, help_of_labels, help_of_needs, help_of_replay, help_of_run, help_of_trial, help_text, help_to_run, help_to_trust, help_to_try, is_either, own_text_of, version_text};
+ghost use Rattle.vd_cmd.specs.Own.{help_of, help_of_certify, help_of_check, help_of_choose, help_of_clear, help_of_compile, help_of_deal, help_of_depends, help_of_draw, help_of_excuse, help_of_gen, help_of_hasten, help_of_host, help_of_host_within, help_of_influences, help_of_labels, help_of_needs, help_of_replay, help_of_reveals, help_of_run, help_of_trial, help_text, help_to_run, help_to_trust, help_to_try, is_either, own_text_of, version_text};
 
 use vd_base::Texts;
 
@@ -57,6 +57,9 @@ To run it:
 
 To trust it:
   viaduct certify SOURCE CERT   print what the certificate CERT shows: the least cost, or that there is none
+  viaduct reveals SOURCE [HOST] [BUDGET]
+                                print a line for each word that comes to HOST, or to each host, in clear at the choice of
+                                choose: where it is made, its name, where it comes from, how often at most, and what for
   viaduct depends SOURCE HOST   print the hosts whose inputs can bear on HOST's outputs, outside of what is
                                 declassified to it
   viaduct influences SOURCE HOST
@@ -273,6 +276,16 @@ fn help_of_certify() -> &'static str
 "
 }
 
+#[tactic(auto, unfolding(crate::specs::Own::help_of_reveals))]
+fn help_of_reveals() -> &'static str
+    ensures { result.now ≡ help_of_reveals }
+{
+    "viaduct reveals SOURCE [HOST] [BUDGET]
+  print a line for each word that comes to HOST, or to each host, in clear at the choice of
+  choose: where it is made, its name, where it comes from, how often at most, and what for
+"
+}
+
 #[tactic(auto, unfolding(crate::specs::Own::help_of_depends))]
 fn help_of_depends() -> &'static str
     ensures { result.now ≡ help_of_depends }
@@ -369,6 +382,8 @@ fn help_to_trust(word: &str) -> Option<&'static str>
 {
     if word == "certify" {
         Some(help_of_certify())
+    } else if word == "reveals" {
+        Some(help_of_reveals())
     } else if word == "depends" {
         Some(help_of_depends())
     } else if word == "influences" {

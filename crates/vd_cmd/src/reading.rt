@@ -1,14 +1,14 @@
 //! The command that the words of a command line are.
 
 ghost use Rattle.std.specs.Prelude.{◌≡◌, [], ◌∷◌, None, Some, IfOk, IfSome, MatchOption};
-ghost use Rattle.vd_cmd.specs.Commands.{Reads, AreWithin, IsWait, compile_with, counts_in, deal_in, excuse_form_of, fixed_form_of, form_of, host_form_of, key_file, limited_form_of, needs_with, other_form_of, replay_with, unhosted_form_of};
+ghost use Rattle.vd_cmd.specs.Commands.{Reads, AreWithin, IsWait, compile_with, counts_in, deal_in, excuse_form_of, fixed_form_of, form_of, host_form_of, key_file, limited_form_of, needs_with, other_form_of, replay_with, reveals_with, unhosted_form_of};
 ghost use Rattle.vd_cmd.specs.declared.command.KeySource.TheVariants.{InFile};
 
 use crate::command::{Command, CommandFault, FilesCommand, HostWords};
 use crate::forms::{
     certify_of, check_of, choose_of, clear_of, compile_of, deal_drawn, deal_from_file, deal_of,
     depends_of, draw_of, early_of, excuse_of, gen_of, hasten_of, influences_of, needs_of,
-    replay_of, run_of, trial_of,
+    replay_of, reveals_all, reveals_one, run_of, trial_of,
 };
 use crate::numbers::number_within;
 use std::alloc::{AllocError, Global};
@@ -77,6 +77,18 @@ fn needs_with(alloc: Global, file: &Text, other: &Text) -> Result<Command, Comma
     }
 }
 
+/// The command `reveals` with one word more: a budget, where it is a number, or the name of a host.
+fn reveals_with(alloc: Global, source: &Text, other: &Text) -> Result<Command, CommandFault>
+    ensures { Reads (reveals_with source.now other.now) result }
+{
+    let most = u64::from(SEARCH_BUDGET);
+    if number_within(0, u64::MAX, other).is_some() {
+        reveals_all(alloc, source, number_within(1, most, other))
+    } else {
+        reveals_one(alloc, source, other, Some(most))
+    }
+}
+
 /// The command `replay` with one word more: `messages`, or a budget.
 fn replay_with(
     alloc: Global,
@@ -107,6 +119,8 @@ fn two_words(alloc: Global, word: &Text, argument: &Text) -> Result<Command, Com
         choose_of(alloc, argument, Some(u64::from(SEARCH_BUDGET)))
     } else if word.as_str() == "draw" {
         draw_of(alloc, argument, Some(u64::from(SEARCH_BUDGET)))
+    } else if word.as_str() == "reveals" {
+        reveals_all(alloc, argument, Some(u64::from(SEARCH_BUDGET)))
     } else if word.as_str() == "needs" {
         needs_of(alloc, argument, false, Some(u64::from(SEARCH_BUDGET)))
     } else if word.as_str() == "gen" {
@@ -142,6 +156,8 @@ fn three_words(
         choose_of(alloc, source, number_within(1, most, other))
     } else if word.as_str() == "draw" {
         draw_of(alloc, source, number_within(1, most, other))
+    } else if word.as_str() == "reveals" {
+        reveals_with(alloc, source, other)
     } else if word.as_str() == "compile" {
         compile_of(alloc, source, other, Some(most))
     } else if word.as_str() == "needs" {
@@ -168,6 +184,9 @@ fn four_words(
     } else if word.as_str() == "needs" && second.as_str() == "each" {
         let budget = number_within(1, u64::from(SEARCH_BUDGET), third);
         needs_of(alloc, first, true, budget)
+    } else if word.as_str() == "reveals" {
+        let budget = number_within(1, u64::from(SEARCH_BUDGET), third);
+        reveals_one(alloc, first, second, budget)
     } else {
         Err(CommandFault::Usage)
     }

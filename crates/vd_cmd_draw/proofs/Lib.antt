@@ -7,3 +7,6 @@ mod Legends
 mod Adding
 mod Arrows
 mod Coming
+mod Asked
+mod RevealsSure
+mod RevealsTold

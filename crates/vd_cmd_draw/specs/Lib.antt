@@ -1,5 +1,8 @@
 pub mod Drawing
 pub mod Telling
+pub mod Reveals
+pub mod Revealing
+pub mod RevealsTelling
 pub mod Together
 pub mod Showing
 pub mod Legends

@@ -8,6 +8,7 @@ usage_table =
     ∷ (codes "labels", codes "usage: viaduct labels SOURCE\n")
     ∷ (codes "choose", codes "usage: viaduct choose SOURCE [BUDGET]\n")
     ∷ (codes "draw", codes "usage: viaduct draw SOURCE [BUDGET]\n")
+    ∷ (codes "reveals", codes "usage: viaduct reveals SOURCE [HOST] [BUDGET]\n")
     ∷ (codes "certify", codes "usage: viaduct certify SOURCE CERT\n")
     ∷ (codes "compile", codes "usage: viaduct compile SOURCE PREFIX [early] [BUDGET]\n")
     ∷ (codes "needs", codes "usage: viaduct needs FILE [each] [BUDGET]\n")

@@ -10,6 +10,10 @@ const USAGES: [(&[u8], &[u8]); 19] = [
     (b"labels", b"usage: viaduct labels SOURCE\n"),
     (b"choose", b"usage: viaduct choose SOURCE [BUDGET]\n"),
     (b"draw", b"usage: viaduct draw SOURCE [BUDGET]\n"),
+    (
+        b"reveals",
+        b"usage: viaduct reveals SOURCE [HOST] [BUDGET]\n",
+    ),
     (b"certify", b"usage: viaduct certify SOURCE CERT\n"),
     (
         b"compile",

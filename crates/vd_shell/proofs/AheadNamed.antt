@@ -30,6 +30,7 @@ named_ahead = record {
   labels = λ source. inl refl;
   choose = λ source budget. inl refl;
   draw = λ source budget. inl refl;
+  reveals = λ words. inl refl;
   certify = λ source certificate. (inl refl, inr (inl refl));
   compile = λ source prefix budget. inl refl;
   early = λ words. inl refl;

@@ -12,8 +12,9 @@ use Rattle.vd_cmd.specs.declared.command.KeyDealWords.{KeyDealWords}
 use Rattle.vd_cmd.specs.declared.command.KeySource.TheVariants.{InFile}
 use Rattle.vd_cmd.specs.declared.command.NeedsWords.{NeedsWords}
 use Rattle.vd_cmd.specs.declared.command.ReplayWords.{ReplayWords}
+use Rattle.vd_cmd.specs.declared.command.RevealsWords.{RevealsWords}
 use Rattle.vd_cmd.specs.declared.command.RunWords.{RunWords}
-use Rattle.vd_cmd.specs.declared.command.FilesCommand.TheVariants.{Clear, Labels, Choose, Draw, Certify, Compile, Needs, Hasten, Replay}
+use Rattle.vd_cmd.specs.declared.command.FilesCommand.TheVariants.{Clear, Labels, Choose, Draw, Reveals, Certify, Compile, Needs, Hasten, Replay}
 use Rattle.vd_cmd.specs.declared.command.FilesCommand.TheVariants.{Excuse, Depends, Influences}
 use Rattle.vd_cmd_plan.specs.Numbered.{file_name}
 use Rattle.vd_edge.specs.declared.kept.Wanted.{Wanted}
@@ -38,6 +39,7 @@ pub record NamedFilesAreAhead : Type 0 where
   pub labels : (source : List ℕ) → IsAhead (OnFiles (Labels source)) source most_source_bytes
   pub choose : (source : List ℕ) (budget : ℕ) → IsAhead (OnFiles (Choose source budget)) source most_source_bytes
   pub draw : (source : List ℕ) (budget : ℕ) → IsAhead (OnFiles (Draw source budget)) source most_source_bytes
+  pub reveals : (words : RevealsWords) → IsAhead (OnFiles (Reveals words)) words.source most_source_bytes
   pub certify : (source certificate : List ℕ) → IsAhead (OnFiles (Certify source certificate)) source most_source_bytes
       × IsAhead (OnFiles (Certify source certificate)) certificate most_certificate_bytes
   pub compile : (source prefix : List ℕ) (budget : ℕ) → IsAhead (OnFiles (Compile source prefix budget)) source most_source_bytes

@@ -5,7 +5,7 @@ use Rattle.vd_tape.specs.declared.deal_items.deal.Counts.{Counts}
 use Rattle.vd_tape.specs.Made.{AreCounts}
 use Rattle.vd_cmd.specs.Commands.{AreWithin}
 use Rattle.vd_cmd.specs.declared.command.FilesCommand.{FilesCommand}
-use Rattle.vd_cmd.specs.declared.command.FilesCommand.TheVariants.{Choose, Draw, Compile, Excuse, Needs, Replay, Trial}
+use Rattle.vd_cmd.specs.declared.command.FilesCommand.TheVariants.{Choose, Draw, Reveals, Compile, Excuse, Needs, Replay, Trial}
 use Rattle.vd_cmd_plan.specs.Plans.{IsProper, IsGiven}
 use Rattle.vd_cmd_plan.specs.declared.status.Status.{Status}
 use Rattle.vd_cmd_plan.specs.declared.answer.Answer.{Answer}
@@ -16,7 +16,7 @@ use Rattle.vd_cmd_choice.specs.Searching.{Searched, sure_search}
 use Rattle.vd_cmd_choice.proofs.Front.{some_certificates}
 use Rattle.vd_cmd_choose.proofs.Front.{choose_follows}
 use Rattle.vd_cmd_compile.proofs.Front.{compile_follows}
-use Rattle.vd_cmd_draw.proofs.Front.{draw_follows}
+use Rattle.vd_cmd_draw.proofs.Front.{draw_follows, reveals_follows}
 use Rattle.vd_cmd_plan.proofs.Front.{some_programs}
 use Rattle.vd_cmd_needs.proofs.Front.{needs_follows}
 use Rattle.vd_cmd_files.proofs.Front.{some_outcomes as some_replays}
@@ -43,6 +43,7 @@ are_counts counts within = record { hosts = within.hosts; own = within.own; muls
 pub command_follows : (outcomes : Outcomes) (searched : Searched) (command : FilesCommand) (files : Contents) → Follows (plan_of outcomes (sure_search outcomes.choices) command files) (plan_of outcomes (search_of outcomes searched) command files)
 command_follows outcomes searched (Choose source budget) files = choose_follows outcomes.texts outcomes.labels outcomes.certificates outcomes.choices searched source budget files
 command_follows outcomes searched (Draw source budget) files = draw_follows outcomes.texts outcomes.labels outcomes.certificates outcomes.choices searched source budget files
+command_follows outcomes searched (Reveals words) files = reveals_follows outcomes.texts outcomes.labels outcomes.certificates outcomes.choices searched words files
 command_follows outcomes searched (Compile source prefix budget) files = compile_follows outcomes.texts outcomes.labels outcomes.certificates outcomes.choices searched source prefix budget files
 command_follows outcomes searched (Needs words) files = needs_follows outcomes.texts outcomes.programs outcomes.labels outcomes.certificates outcomes.choices searched words files
 command_follows outcomes searched (Replay words) files = replay_follows outcomes.texts outcomes.replays outcomes.labels outcomes.certificates outcomes.choices searched words files

@@ -1,4 +1,4 @@
--- What a run of `labels`, `certify`, `choose`, `draw`, `compile`, `hasten` or `deal` has shown, where it ended well.
+-- What a run of `labels`, `certify`, `choose`, `draw`, `reveals`, `compile`, `hasten` or `deal` has shown, where it ended well.
 use Rattle.std.specs.Prelude.{◌≡◌, ℕ, IsTrue, List, ◌++◌, Some}
 use Rattle.vd_outside.specs.Files.{FilesView}
 use Rattle.vd_outside.specs.Sink.{SinkView}
@@ -7,13 +7,15 @@ use Rattle.vd_cmd.specs.Commands.{KeepsLimits, form_of}
 use Rattle.vd_cmd.specs.declared.command.Command.{Command}
 use Rattle.vd_cmd.specs.declared.command.Command.TheVariants.{KeyDeal, OnFiles}
 use Rattle.vd_cmd.specs.declared.command.KeyDealWords.{KeyDealWords}
-use Rattle.vd_cmd.specs.declared.command.FilesCommand.TheVariants.{Certify, Choose, Compile, Deal, Draw, Hasten, Labels}
+use Rattle.vd_cmd.specs.declared.command.RevealsWords.{RevealsWords}
+use Rattle.vd_cmd.specs.declared.command.FilesCommand.TheVariants.{Certify, Choose, Compile, Deal, Draw, Hasten, Labels, Reveals}
 use Rattle.vd_cmd_plan.specs.declared.status.Status.{Status}
 use Rattle.vd_cmd_plan.specs.declared.status.Status.TheVariants.{Ended}
 use Rattle.vd_cmd_laws.specs.Answers.{TellsChoice, TellsCompiled, TellsLabels, TellsProof}
 use Rattle.vd_cmd_laws.specs.Dealt.{TellsDeal}
 use Rattle.vd_cmd_laws.specs.KeyedDealt.{TellsKeyed}
 use Rattle.vd_cmd_draw.specs.Telling.{TellsDrawing}
+use Rattle.vd_cmd_draw.specs.RevealsTelling.{TellsReveals}
 use Rattle.vd_cmd_hasten.specs.Telling.{TellsHastened}
 
 -- the bytes that were added to the output are told so
@@ -48,6 +50,12 @@ abbrev pub KeepsDrawing : (words : List (List ℕ)) → FilesView → SinkView �
 KeepsDrawing words before out_before out_now status =
     (source : List ℕ) (budget : ℕ) → form_of words ≡ Some (OnFiles (Draw source budget)) → IsTrue before.told → IsTrue out_now.told → status ≡ Ended
     → Adds (TellsDrawing source before.contents) out_before out_now
+
+-- Where they are those of `reveals`, it has printed a line for each word that comes to the host, or to each host, in clear at that list.
+abbrev pub KeepsReveals : (words : List (List ℕ)) → FilesView → SinkView → SinkView → Status → Type 0
+KeepsReveals words before out_before out_now status =
+    (reveals : RevealsWords) → form_of words ≡ Some (OnFiles (Reveals reveals)) → IsTrue before.told → IsTrue out_now.told → status ≡ Ended
+    → Adds (TellsReveals reveals before.contents) out_before out_now
 
 -- Where they are those of `compile`, it has printed that list too, and the file of each host stands: the text of its part of the joint
 -- code at that list.

@@ -10,7 +10,7 @@ use Rattle.vd_cmd.specs.declared.command.Command.{Command}
 use Rattle.vd_cmd_plan.specs.Lines.{Says, status_line}
 use Rattle.vd_cmd_plan.specs.Runs.{Prints}
 use Rattle.vd_cmd_plan.specs.declared.status.Status.{Status}
-use Rattle.vd_top.specs.Answers.{KeepsChoice, KeepsCompiled, KeepsDeal, KeepsDrawing, KeepsHastened, KeepsKeyed, KeepsLabels, KeepsProof}
+use Rattle.vd_top.specs.Answers.{KeepsChoice, KeepsCompiled, KeepsDeal, KeepsDrawing, KeepsHastened, KeepsKeyed, KeepsLabels, KeepsProof, KeepsReveals}
 use Rattle.vd_top.specs.Compiled.{KeepsStored, StoresForm}
 use Rattle.vd_top.specs.Early.{EarlyByWords, EarlyForm}
 use Rattle.vd_top.specs.Counts.{CountedForm, KeepsCount, counts_packets, counts_packets_by}
@@ -104,6 +104,8 @@ pub record Keeps (words : List (List ℕ)) (o : Around) (status : Status) : Type
   pub chosen : KeepsChoice words o.files.0 o.files.1 o.out.0 o.out.1 status
   -- `draw` has printed the drawing of this choice, and the costs of the rows add up to that of the choice.
   pub drawn : KeepsDrawing words o.files.0 o.out.0 o.out.1 status
+  -- `reveals` has printed a line for each word that comes to a host in clear at this choice.
+  pub revealed : KeepsReveals words o.files.0 o.out.0 o.out.1 status
   -- `compile` has printed this choice, and stored each host's part of the joint code at it.
   pub compiled : KeepsCompiled words o.files.0 o.files.1 o.out.0 o.out.1 status
   -- Each of these files, read back, is the program of its host.
