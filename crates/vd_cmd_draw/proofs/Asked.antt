@@ -10,15 +10,11 @@ use Rattle.vd_cmd_plan.specs.declared.status.Status.{Status}
 use Rattle.vd_cmd_plan.specs.declared.status.Status.TheVariants.{Ended, Memory, Usage, ReadFault, WriteFault, NoAssignment, Host, ChildFault}
 use Rattle.vd_cmd_plan.proofs.Front.{answers, check_step}
 use Rattle.vd_cmd_choice.specs.Choice.{Chosen}
-use Rattle.vd_cmd_depends.specs.Depending.{as_host}
 use Rattle.vd_cmd_draw.specs.Revealing.{alone, asked_hosts, asked_then, revealed_for}
 
 -- the one of a name
-pub one_asked : (names : List (List ℕ)) (word : Option (List ℕ)) (name : List ℕ) (h : HostId) (list : List HostId) → word ≡ Some name → Checks (as_host names name) (Ok h) → list ≡ h ∷ [] → Checks (asked_hosts names word) (Ok list)
-one_asked names word name h list is checks listed = record {
-  ok = ap (λ (w : Option (List ℕ)). asked_hosts names w) is ∙ ap alone checks.ok ∙ ap (λ (l : List HostId). Ok l) (sym listed);
-  err = tt;
-}
+pub one_asked : (wanted : Result HostId Status) (h : HostId) (list : List HostId) → Checks wanted (Ok h) → list ≡ h ∷ [] → Checks (alone wanted) (Ok list)
+one_asked wanted h list checks listed = record { ok = ap alone checks.ok ∙ ap (λ (l : List HostId). Ok l) (sym listed); err = tt }
 
 -- all
 pub all_asked : (names : List (List ℕ)) (word : Option (List ℕ)) (list : List HostId) → word ≡ None → list ≡ hosts (length names) → Checks (asked_hosts names word) (Ok list)
@@ -36,13 +32,8 @@ refused_alone wanted (Host cause) is = (is.0, ap alone is.1)
 refused_alone wanted (ChildFault hosts fault) is = absurd is
 refused_alone wanted status is = ap alone is
 
-pub one_refused : (names : List (List ℕ)) (word : Option (List ℕ)) (name : List ℕ) (status : Status) → word ≡ Some name → Checks {T = HostId} (as_host names name) (Err status)
-    → Checks {T = List HostId} (asked_hosts names word) (Err status)
-one_refused names word name status is checks =
-    record { ok = tt; err = subst (λ (w : Option (List ℕ)). IsRefusal (asked_hosts names w) status) (sym is) (refused_alone (as_host names name) status checks.err) }
-
-pub no_memory : (names : List (List ℕ)) (word : Option (List ℕ)) → Checks {T = List HostId} (asked_hosts names word) (Err Memory)
-no_memory names word = record { ok = tt; err = tt }
+pub one_refused : (wanted : Result HostId Status) (status : Status) → Checks {T = HostId} wanted (Err status) → Checks {T = List HostId} (alone wanted) (Err status)
+one_refused wanted status checks = record { ok = tt; err = refused_alone wanted status checks.err }
 
 module _ (words : RevealsWords) (text : List ℕ) (c : Chosen) where
   abbrev after : List HostId → Answer

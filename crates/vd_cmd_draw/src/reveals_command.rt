@@ -7,7 +7,8 @@ ghost use Rattle.vd_constraints.specs.Rules.{system_of};
 ghost use Rattle.vd_constraints.specs.Satisfies.{IsLeast};
 ghost use Rattle.vd_cmd_plan.specs.Plans.{Checks, Computes};
 ghost use Rattle.vd_cmd_choice.specs.Choice.{chosen_of};
-ghost use Rattle.vd_cmd_draw.specs.Revealing.{ExecutesReveals, RevealsChoice, asked_hosts, revealed_answer, revealed_for};
+ghost use Rattle.vd_cmd_depends.specs.Depending.{as_host};
+ghost use Rattle.vd_cmd_draw.specs.Revealing.{ExecutesReveals, RevealsChoice, alone, asked_hosts, revealed_answer, revealed_for};
 
 use crate::reveals_lines::reveals_text;
 use std::alloc::{AllocError, Global};
@@ -31,18 +32,24 @@ fn all_hosts(alloc: Global, names: &Names) -> Result<Items<HostId>, AllocError>
     Ok(list)
 }
 
+/// The host of this name alone.
+fn one_host(alloc: Global, names: &Names, name: &str) -> Result<Items<HostId>, Status>
+    requires { length names.now ≤ most_hosts }
+    ensures { Checks (alone (as_host names.now name.now)) result }
+{
+    let host = host_named(alloc, names, name)?;
+    let mut list = Items::new(alloc);
+    list.push(host)?;
+    Ok(list)
+}
+
 /// The hosts that are asked for: the one of this name, or all.
 fn asked_hosts(alloc: Global, names: &Names, words: &RevealsWords) -> Result<Items<HostId>, Status>
     requires { length names.now ≤ most_hosts }
     ensures { Checks (asked_hosts names.now words.now.host) result }
 {
     match &words.host {
-        Some(name) => {
-            let host = host_named(alloc, names, name.as_str())?;
-            let mut list = Items::new(alloc);
-            list.push(host)?;
-            Ok(list)
-        }
+        Some(name) => one_host(alloc, names, name.as_str()),
         None => Ok(all_hosts(alloc, names)?),
     }
 }
