@@ -6,3 +6,4 @@ pub use Rattle.vd_noninter_protocols.proofs.Differences.{differs_exactly}
 pub use Rattle.vd_noninter_protocols.proofs.Hosts.{kept_at, same_turned}
 pub use Rattle.vd_noninter_protocols.proofs.InClear.{in_clear}
 pub use Rattle.vd_noninter_protocols.proofs.Takers.{below, part_is, runs_each}
+pub use Rattle.vd_noninter_protocols.proofs.NewWords.{new_words_tell}

@@ -14,12 +14,12 @@ use Rattle.vd_noninter_protocols.specs.Hearing.{word_if, stands, comes}
 
 -- ---- items of lists
 
-found_at : (f : Proto → Bool) (xs : List Proto) (k : ℕ) → option_map_or f (slice_get xs k) false ≡ true → f (proto_in xs k) ≡ true
+pub found_at : (f : Proto → Bool) (xs : List Proto) (k : ℕ) → option_map_or f (slice_get xs k) false ≡ true → f (proto_in xs k) ≡ true
 found_at f [] k e = absurd (true≢false (sym e))
 found_at f (x ∷ xs) zero e = e
 found_at f (x ∷ xs) (suc k) e = found_at f xs k e
 
-item_at : (f : Proto → Bool) (xs : List Proto) (k : ℕ) → k < length xs → option_map_or f (slice_get xs k) false ≡ f (proto_in xs k)
+pub item_at : (f : Proto → Bool) (xs : List Proto) (k : ℕ) → k < length xs → option_map_or f (slice_get xs k) false ≡ f (proto_in xs k)
 item_at f [] k low = absurd (omega (arith, low))
 item_at f (x ∷ xs) zero low = refl
 item_at f (x ∷ xs) (suc k) low = item_at f xs k (omega (arith, low))

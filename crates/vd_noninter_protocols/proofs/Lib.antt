@@ -17,3 +17,5 @@ mod InClear
 mod Moved
 mod Takers
 mod NoninterRegistersTheorem
+mod Learning
+mod NewWords

@@ -9,3 +9,4 @@ pub mod Difference
 pub mod Telling
 pub mod Told
 pub mod NoninterRegistersExample
+pub mod Learning

@@ -17,7 +17,8 @@ pub use integrity_assigned::{
     authorities_are_exact, guards_are_told_where_they_are_kept, words_stand_where_they_are_kept,
 };
 pub use noninter_assigned::{
-    inputs_that_agree_bring_the_same, reached_hosts_are_enough_assigned, worked_words,
+    inputs_that_agree_bring_the_same, new_words_tell_all, reached_hosts_are_enough_assigned,
+    worked_words,
 };
 pub use noninter_difference::{Listener, differences_are_exact, view_difference};
 pub use noninter_registers::{

@@ -3,4 +3,7 @@
 
 mod laws;
 
-pub use laws::{inputs_that_agree_bring_the_same, reached_hosts_are_enough_assigned, worked_words};
+pub use laws::{
+    inputs_that_agree_bring_the_same, new_words_tell_all, reached_hosts_are_enough_assigned,
+    worked_words,
+};

@@ -4,6 +4,7 @@
 ghost use Rattle.std.specs.Prelude.{ℕ, Bool};
 ghost use Rattle.vd_noninter_protocols.specs.Assigned.{HearsOnlyAssigned};
 ghost use Rattle.vd_noninter_protocols.specs.Example.{WorkedWords};
+ghost use Rattle.vd_noninter_protocols.specs.Learning.{NewWordsTellAll};
 ghost use Rattle.vd_noninter.specs.NoninterLawsDependence.{AreReached, OfEachHost};
 ghost use Rattle.vd_noninter.specs.Reading.{becomes_readable_to, reads_host, reads_result};
 
@@ -17,6 +18,12 @@ pub fn inputs_that_agree_bring_the_same()
 /// for that.
 pub fn reached_hosts_are_enough_assigned()
     ensures { OfEachHost (λ p l h. (hosts : ℕ → Bool) → AreReached p l h hosts → HearsOnlyAssigned p l h (reads_result p l h) hosts) }
+{}
+
+/// Two families of inputs that agree on a host, and under which the same new words come to it in clear, bring it the same clear
+/// words. A word is new where the host does not have it in clear where it comes from.
+pub fn new_words_tell_all()
+    ensures { NewWordsTellAll }
 {}
 
 /// Of a comparison in shares, declassified to copies, its word comes to a host twice; of a variable that is set under a
