@@ -1,10 +1,10 @@
 -- The hosts that are asked for, and what follows.
-use Rattle.std.proofs.Common.{◌≡◌, ◌∙◌, ◌∷◌, ℕ, true, List, [], length, Option, Some, None, Result, Ok, Err, refl, sym, ap, subst}
+use Rattle.std.proofs.Common.{◌≡◌, ◌∙◌, ◌∷◌, ℕ, true, List, [], length, Option, None, Result, Ok, Err, sym, ap}
 use Rattle.vd_base.specs.HostSets.{hosts}
 use Rattle.vd_base.specs.declared.ids.HostId.{HostId}
 use Rattle.vd_outside.specs.Files.{FilesView}
 use Rattle.vd_cmd.specs.declared.command.RevealsWords.{RevealsWords}
-use Rattle.vd_cmd_plan.specs.Plans.{Checks, Computes, Executes, IsRefusal, answer_then, check_then}
+use Rattle.vd_cmd_plan.specs.Plans.{Checks, Computes, Executes, IsRefusal, answer_then}
 use Rattle.vd_cmd_plan.specs.declared.answer.Answer.{Answer}
 use Rattle.vd_cmd_plan.specs.declared.status.Status.{Status}
 use Rattle.vd_cmd_plan.specs.declared.status.Status.TheVariants.{Ended, Memory, Usage, ReadFault, WriteFault, NoAssignment, Host, ChildFault}

@@ -12,6 +12,7 @@ use Rattle.vd_base.specs.HostSets.{same_host, host}
 use Rattle.vd_base.specs.Holders.{has_clear, is_alone, proto_in, same_protocol}
 use Rattle.vd_base.proofs.Front.{same_is}
 use Rattle.vd_noninter_protocols.specs.Hearing.{stands}
+use Rattle.vd_noninter_protocols.specs.Learning.{knows}
 use Rattle.vd_cmd_draw.specs.Showing.{ToldWordsCome}
 
 -- a word that stays where it is is told to nobody
@@ -39,6 +40,9 @@ module _ (protocols : List Proto) (h : HostId) where
   stands_at : (test : Proto → Bool) (x : SlotId) (p : Proto) → slice_get protocols x.0 ≡ Some p → stands protocols h test x ≡ test p
   stands_at test x p is = ap (λ (o : Option Proto). option_map_or test o false) is
 
+  known_at : (x : SlotId) (p : Proto) → slice_get protocols x.0 ≡ Some p → knows protocols h x ≡ has_clear h p
+  known_at x p is = ap (λ (k : Proto). has_clear h k) (get_or_from_slice_get protocols x.0 p (Local (host 0)) is)
+
   both_are : (from onto : SlotId) (p q : Proto) → slice_get protocols from.0 ≡ Some p → slice_get protocols onto.0 ≡ Some q → same_protocol (proto_in protocols from.0) (proto_in protocols onto.0) ≡ same_protocol p q
   both_are from onto p q is_from is_onto =
       λ i. same_protocol (get_or_from_slice_get protocols from.0 p (Local (host 0)) is_from i) (get_or_from_slice_get protocols onto.0 q (Local (host 0)) is_onto i)
@@ -46,10 +50,10 @@ module _ (protocols : List Proto) (h : HostId) where
 pub words_come : ToldWordsCome
 words_come protocols h from onto p q is_from is_onto = record {
   moved =
-      (λ i. (stands_at protocols h (has_clear h) onto q is_onto i && not (both_are protocols h from onto p q is_from is_onto i)) && not (stands_at protocols h (has_clear h) from p is_from i))
+      (λ i. (stands_at protocols h (has_clear h) onto q is_onto i && not (both_are protocols h from onto p q is_from is_onto i)) && not (known_at protocols h from p is_from i))
       ∙ by_place (same_protocol p q) (has_clear h p) (has_clear h q) (λ same. ap (λ (k : Proto). has_clear h k) (same_is p q same));
   alone =
-      (λ i. not (stands_at protocols h (is_alone h) from p is_from i) && not (stands_at protocols h (has_clear h) from p is_from i))
+      (λ i. not (stands_at protocols h (is_alone h) from p is_from i) && not (known_at protocols h from p is_from i))
       ∙ by_alone h p
       ∙ (λ i. sym (itself h) i && not (has_clear h p));
 }

@@ -1,5 +1,5 @@
 -- A search of `reveals` that gives up wherever it may, beside any other.
-use Rattle.std.proofs.Common.{ℕ, List, refl}
+use Rattle.std.proofs.Common.{refl}
 use Rattle.vd_outside.specs.Files.{Contents}
 use Rattle.vd_search_stages.specs.Choices.{ChoiceOutcomes}
 use Rattle.vd_cmd.specs.declared.command.RevealsWords.{RevealsWords}

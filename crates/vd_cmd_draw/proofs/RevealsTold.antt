@@ -30,8 +30,8 @@ use Rattle.vd_cmd_plan.specs.declared.status.Status.{Status}
 use Rattle.vd_cmd_plan.specs.declared.status.Status.TheVariants.{Ended, NoAssignment, NoHost}
 use Rattle.vd_cmd_labels.specs.Sources.{HoldsSource}
 use Rattle.vd_cmd_choice.specs.Choice.{assigned_answer, chosen_by}
-use Rattle.vd_cmd_laws.proofs.Front.{answered, check_came, ends_as, made_of, source_choice_came}
-use Rattle.vd_cmd_depends.specs.Depending.{as_host}
+use Rattle.vd_cmd_laws.proofs.Front.{answered, check_came, made_of, source_choice_came}
+use Rattle.vd_noninter_protocols.proofs.Front.{new_words_tell}
 use Rattle.vd_draw_rows.proofs.Front.{add_up}
 use Rattle.vd_cmd_draw.specs.Revealing.{alone, asked_hosts, asked_then, revealed_answer, revealed_for}
 use Rattle.vd_cmd_draw.specs.RevealsTelling.{RevealsTell, TellsReveals}
@@ -72,6 +72,7 @@ module _ (words : RevealsWords) (contents : Contents) (source : Source) (held : 
         asked = asked;
         are_asked = are;
         lines = refl;
+        enough = λ numbers h. new_words_tell program labels a.protocols (record { made = made; numbers = numbers; assignment = record { places = list; is_valid = best.is_valid; named = refl } }) h;
       })
 
 pub reveals_told : RevealsTell

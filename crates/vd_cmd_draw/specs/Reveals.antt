@@ -1,5 +1,5 @@
 -- The lines of `reveals`: which words come to a host in clear. They are the moves of the rows of the drawing that tell the host a word.
-use Rattle.std.specs.Prelude.{ℕ, nat_lt, Bool, true, if◌then◌else◌, Option, Some, None, List, [], ◌∷◌, ◌++◌, slice_get, codes}
+use Rattle.std.specs.Prelude.{ℕ, nat_lt, Bool, true, if◌then◌else◌, Option, Some, List, [], ◌∷◌, ◌++◌, slice_get, codes}
 use Rattle.std.specs.List.{flat_map}
 use Rattle.std.specs.Option.{option_map_or}
 use Rattle.vd_base.specs.declared.ids.HostId.{HostId}

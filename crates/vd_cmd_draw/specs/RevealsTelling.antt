@@ -4,6 +4,8 @@ use Rattle.vd_base.specs.declared.ids.HostId.{HostId}
 use Rattle.vd_outside.specs.Files.{Contents}
 use Rattle.vd_core.specs.declared.source.Source.{Source}
 use Rattle.vd_core.specs.declared.normal.NormalForm.{NormalForm}
+use Rattle.vd_core.specs.Numbers.{NumbersFit}
+use Rattle.vd_noninter_protocols.specs.Learning.{NewWordsTell}
 use Rattle.vd_cmd_rewrite.specs.RunPrograms.{IsRunProgram}
 use Rattle.vd_search_stages.specs.Choices.{ChoiceOutcomes}
 use Rattle.vd_search_stages.specs.declared.optimum.Assignment.{Assignment}
@@ -29,6 +31,8 @@ pub record TellsReveals (words : RevealsWords) (contents : Contents) (printed : 
   pub asked : List HostId
   pub are_asked : asked_hosts program.hosts words.host ≡ Ok asked
   pub lines : printed ≡ reveals_text held.bytes program assignment.protocols asked
+  -- what comes to a host in clear is told by its own inputs and by the words that are new to it where they come
+  pub enough : NumbersFit program → (h : HostId) → NewWordsTell program selected.labels assignment.protocols h
 
 -- so does its plan, whatever functions pick outcomes and whatever a search answers
 abbrev pub RevealsTell : Type 0

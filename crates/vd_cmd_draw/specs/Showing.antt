@@ -1,13 +1,13 @@
 -- Which words a drawing shows a host, and which clear words come to it.
-use Rattle.std.specs.Prelude.{◌≡◌, ℕ, ◌<◌, ◌^◌, Bool, true, false, ◌&&◌, not, Some, List, slice_get}
+use Rattle.std.specs.Prelude.{◌≡◌, ℕ, ◌<◌, ◌^◌, Bool, true, false, ◌&&◌, Some, List, slice_get}
 use Rattle.vd_base.specs.declared.ids.HostId.{HostId}
 use Rattle.vd_base.specs.declared.ids.SlotId.{SlotId}
 use Rattle.vd_base.specs.declared.protocols.Proto.{Proto}
 use Rattle.vd_base.specs.declared.protocols.Proto.TheVariants.{Local, Rep}
 use Rattle.vd_base.specs.HostSets.{same_host}
 use Rattle.vd_base.specs.Moves.{move_at}
-use Rattle.vd_base.specs.Holders.{has_clear}
-use Rattle.vd_noninter_protocols.specs.Hearing.{comes, comes_alone, stands}
+use Rattle.vd_noninter_protocols.specs.Hearing.{comes, comes_alone}
+use Rattle.vd_noninter_protocols.specs.Learning.{is_new}
 use Rattle.vd_draw_rows.specs.declared.row.Arrow.{Arrow}
 use Rattle.vd_draw_rows.specs.declared.row.Arrow.TheVariants.{Clear, Checked, Opened, Revealed}
 use Rattle.vd_draw_rows.specs.Moves.{arrow_of, is_seen, is_told}
@@ -38,10 +38,10 @@ IsSmall other = Unit {0}
 abbrev pub ArrowsShow : Type 0
 ArrowsShow = (from to : Proto) (cost : ℕ) → move_at from to ≡ Some cost → IsSmall from → (h : HostId) → h.0 < 8 → shows h from to ≡ is_told h from to
 
--- of a word that is moved from the one slot to the other, and of one that is moved to the host alone
+-- that a word is new which is moved from the one slot to the other, and one that is moved to the host alone
 pub record ComeAsTold (protocols : List Proto) (h : HostId) (from onto : SlotId) (p q : Proto) : Type 0 where
-  pub moved : (comes protocols h from onto && not (stands protocols h (has_clear h) from)) ≡ is_told h p q
-  pub alone : (comes_alone protocols h from && not (stands protocols h (has_clear h) from)) ≡ is_told h p (Local h)
+  pub moved : is_new protocols h (comes protocols h from onto) from ≡ is_told h p q
+  pub alone : is_new protocols h (comes_alone protocols h from) from ≡ is_told h p (Local h)
 
 abbrev pub ToldWordsCome : Type 0
 ToldWordsCome = (protocols : List Proto) (h : HostId) (from onto : SlotId) (p q : Proto)

@@ -1,7 +1,6 @@
 use Rattle.std.proofs.Common.{Option, List, ℕ, sym, subst}
 use Rattle.vd_cmd_plan.specs.Plans.{Checks}
 use Rattle.vd_cmd_draw.specs.Revealing.{asked_hosts}
-use Rattle.vd_cmd_draw.proofs.Asked.{all_asked}
 use Rattle.vd_cmd_draw.proofs.reveals_command.asked_hosts.Goals as goal
 
 pub returns-in-Some : goal.returns-in-Some

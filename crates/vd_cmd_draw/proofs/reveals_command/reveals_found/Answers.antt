@@ -1,9 +1,5 @@
-use Rattle.std.proofs.Common.{ap, subst}
 use Rattle.std.proofs.lemmas.Result.{err_from_is_err_and}
-use Rattle.vd_core.specs.declared.normal.NormalForm.{NormalForm}
 use Rattle.vd_cmd_choice.specs.Choice.{chosen_of}
-use Rattle.vd_cmd_plan.specs.Plans.{Checks, Computes}
-use Rattle.vd_cmd_draw.specs.Revealing.{asked_hosts, revealed_for}
 use Rattle.vd_cmd_draw.proofs.Asked.{asked_found, asked_refused}
 use Rattle.vd_cmd_draw.proofs.reveals_command.reveals_found.Goals as goal
 
