@@ -5,7 +5,7 @@ ghost use Rattle.vd_diag.specs.Usage as usage;
 
 use crate::tables::in_table;
 
-const USAGES: [(&[u8], &[u8]); 19] = [
+const USAGES: [(&[u8], &[u8]); 20] = [
     (b"clear", b"usage: viaduct clear SOURCE INPUTS\n"),
     (b"labels", b"usage: viaduct labels SOURCE\n"),
     (b"choose", b"usage: viaduct choose SOURCE [BUDGET]\n"),
