@@ -25,6 +25,7 @@ help_read = record {
   certify = λ a b. refl;
   depends = λ a b. refl;
   influences = λ a b. refl;
+  column = λ a b c d named. rw named refl;
   excuse = λ a b c d e f. refl;
   replay = λ a b c d. refl;
   messages = λ a b c d. refl;

@@ -1,6 +1,7 @@
 -- The forms of a command line.
-use Rattle.std.specs.Prelude.{◌≡◌, ◌↔◌, ◌<◌, ◌≤◌, ℕ, ◌-◌, ◌^◌, Bool, true, false, ◌&&◌, List, [], ◌∷◌, Option, Some, None, is_some, Result, Err, IfOk, IfSome, if◌then◌else◌, codes, nat_eq}
+use Rattle.std.specs.Prelude.{◌≡◌, ◌↔◌, ◌<◌, ◌≤◌, ℕ, ◌-◌, ◌^◌, Bool, true, false, IsTrue, ◌&&◌, List, [], ◌∷◌, Option, Some, None, is_some, Result, Err, IfOk, IfSome, if◌then◌else◌, codes, nat_eq}
 use Rattle.std.specs.Str.{bytes_eq}
+use Rattle.vd_base.specs.Lexical.{is_name}
 use Rattle.vd_base.specs.Limits.{most_hosts, most_deal_items, most_search_budget}
 use Rattle.vd_tape.specs.declared.deal_items.deal.Counts.{Counts}
 use Rattle.vd_gen.specs.Sizes.{most_coordinates}
@@ -10,7 +11,7 @@ use Rattle.vd_cmd.specs.declared.command.Command.TheVariants.{OnFiles, KeyDeal, 
 use Rattle.vd_cmd.specs.declared.command.KeySource.{KeySource}
 use Rattle.vd_cmd.specs.declared.command.KeySource.TheVariants.{Drawn, InFile}
 use Rattle.vd_cmd.specs.declared.command.FilesCommand.{FilesCommand}
-use Rattle.vd_cmd.specs.declared.command.FilesCommand.TheVariants.{Clear, Labels, Choose, Draw, Reveals, Certify, Compile, Needs, Hasten, Deal, Replay, Excuse, Depends, Influences, Gen, Trial}
+use Rattle.vd_cmd.specs.declared.command.FilesCommand.TheVariants.{Clear, Labels, Choose, Draw, Reveals, Certify, Compile, Needs, Hasten, Deal, Replay, Excuse, Depends, Influences, Column, Gen, Trial}
 use Rattle.vd_cmd.specs.declared.command.CommandFault.{CommandFault}
 use Rattle.vd_cmd.specs.declared.command.CommandFault.TheVariants.{Usage}
 
@@ -199,10 +200,21 @@ unfoldable pub limited_form_of : List (List ℕ) → Option Command
 limited_form_of [] = None
 limited_form_of (seconds ∷ words) = limited_by (number_within 1 most_wait seconds) words
 
+-- the command `column` with these words behind it: a host, a file, and one name of a column or more
+abbrev pub column_form_of : List (List ℕ) → Option Command
+column_form_of (host ∷ file ∷ first ∷ columns) =
+    if is_name host then Some (OnFiles (Column (record { host = host; file = file; columns = first ∷ columns }))) else None
+column_form_of words = None
+
+-- the command of words that are not those of `excuse`, and run no host by themselves
+abbrev pub listed_form_of : List (List ℕ) → Option Command
+listed_form_of [] = None
+listed_form_of (word ∷ words) = if bytes_eq word (codes "column") then column_form_of words else fixed_form_of (word ∷ words)
+
 -- the command of words that run no host by themselves
 abbrev pub unhosted_form_of : List (List ℕ) → Option Command
 unhosted_form_of [] = None
-unhosted_form_of (word ∷ words) = if bytes_eq word (codes "excuse") then excuse_form_of words else fixed_form_of (word ∷ words)
+unhosted_form_of (word ∷ words) = if bytes_eq word (codes "excuse") then excuse_form_of words else listed_form_of (word ∷ words)
 
 -- the command of words that do not run a host without a limit
 abbrev pub other_form_of : List (List ℕ) → Option Command
@@ -240,6 +252,7 @@ IsWait seconds = (1 ≤ seconds) × (seconds ≤ most_wait)
 -- what the numbers of a command keep
 abbrev pub KeepsFilesLimits : FilesCommand → Type 0
 KeepsFilesLimits (Deal counts key prefix) = AreWithin counts
+KeepsFilesLimits (Column words) = IsTrue (is_name words.host)
 KeepsFilesLimits (Gen coordinates) = IsSize coordinates
 KeepsFilesLimits (Trial coordinates) = IsSize coordinates
 KeepsFilesLimits (Choose source budget) = IsBudget budget

@@ -1,11 +1,12 @@
 -- The words that the help says, read.
-use Rattle.std.specs.Prelude.{◌≡◌, ℕ, ◌-◌, ◌^◌, true, false, List, [], ◌∷◌, Some, None, codes}
+use Rattle.std.specs.Prelude.{◌≡◌, ℕ, IsTrue, ◌-◌, ◌^◌, true, false, List, [], ◌∷◌, Some, None, codes}
+use Rattle.vd_base.specs.Lexical.{is_name}
 use Rattle.vd_base.specs.Limits.{most_search_budget}
 use Rattle.vd_cmd.specs.Commands.{form_of}
 use Rattle.vd_cmd.specs.declared.command.Command.TheVariants.{OnFiles, Early, Host, Check}
 use Rattle.vd_cmd.specs.Numbers.{number_within}
 use Rattle.vd_cmd.specs.declared.command.FilesCommand.{FilesCommand}
-use Rattle.vd_cmd.specs.declared.command.FilesCommand.TheVariants.{Clear, Labels, Choose, Draw, Reveals, Certify, Compile, Needs, Hasten, Replay, Excuse, Depends, Influences}
+use Rattle.vd_cmd.specs.declared.command.FilesCommand.TheVariants.{Clear, Labels, Choose, Draw, Reveals, Certify, Compile, Needs, Hasten, Replay, Excuse, Depends, Influences, Column}
 
 -- the words are read as this command over files
 abbrev pub AreRead : List (List ℕ) → FilesCommand → Type 0
@@ -38,6 +39,8 @@ pub record HelpIsRead : Type 0 where
   pub certify : (source cert : List ℕ) → AreRead (codes "certify" ∷ source ∷ cert ∷ []) (Certify source cert)
   pub depends : (source host : List ℕ) → AreRead (codes "depends" ∷ source ∷ host ∷ []) (Depends source host)
   pub influences : (source host : List ℕ) → AreRead (codes "influences" ∷ source ∷ host ∷ []) (Influences source host)
+  pub column : (host file first : List ℕ) (columns : List (List ℕ)) → IsTrue (is_name host)
+      → AreRead (codes "column" ∷ host ∷ file ∷ first ∷ columns) (Column (record { host = host; file = file; columns = first ∷ columns }))
   pub excuse : (source inputs second prefix host out : List ℕ)
       → AreRead (codes "excuse" ∷ source ∷ inputs ∷ second ∷ prefix ∷ host ∷ out ∷ [])
       (Excuse (record { source = source; inputs = inputs; second = second; prefix = prefix; host = host; out = out; budget = most_search_budget }))

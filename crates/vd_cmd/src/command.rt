@@ -117,6 +117,17 @@ pub struct ExcuseWords {
     pub budget: u32,
 }
 
+/// The words of `column HOST FILE NAME[*FACTOR] ..`.
+#[derive(Drop)]
+pub struct ColumnWords {
+    /// The name of the host whose section is printed.
+    pub host: Text,
+    /// The table.
+    pub file: Text,
+    /// The columns in the order in which their words are printed: the name of each, and a factor if it has one.
+    pub columns: Texts,
+}
+
 /// A command that uses files and the output alone: it reads files, and its answer is what it stores and prints.
 #[derive(Drop)]
 pub enum FilesCommand {
@@ -148,6 +159,8 @@ pub enum FilesCommand {
     Depends(Text, Text),
     /// `influences SOURCE HOST`.
     Influences(Text, Text),
+    /// `column HOST FILE NAME[*FACTOR] ..`.
+    Column(ColumnWords),
     /// `gen N`.
     Gen(u32),
     /// `trial N`.

@@ -1,17 +1,18 @@
 //! Commands made of their words, and of the numbers that were found in them.
 
-ghost use Rattle.std.specs.Prelude.{◌≡◌, None, Some, IfOk, IfSome};
+ghost use Rattle.std.specs.Prelude.{◌≡◌, None, Some, IfOk, IfSome, IsTrue};
+ghost use Rattle.vd_base.specs.Lexical.{is_name};
 ghost use Rattle.vd_cmd.specs.Commands.{Reads, AreWithin, IsBudget, IsPort, IsSize, choose_of, compile_of, deal_of, draw_of, early_of, excuse_of, gen_of, key_deal_of, needs_of, replay_of, reveals_of, run_of, trial_of};
 ghost use Rattle.vd_cmd.specs.declared.command.Command.TheVariants.{Check, OnFiles};
-ghost use Rattle.vd_cmd.specs.declared.command.FilesCommand.TheVariants.{Clear, Certify, Hasten, Depends, Influences};
+ghost use Rattle.vd_cmd.specs.declared.command.FilesCommand.TheVariants.{Clear, Certify, Column, Hasten, Depends, Influences};
 ghost use Rattle.vd_cmd.specs.declared.command.KeySource.TheVariants.{Drawn, InFile};
 
 use crate::command::{
-    CheckWords, Command, CommandFault, EarlyWords, ExcuseWords, FilesCommand, KeyDealWords,
-    KeySource, NeedsWords, ReplayWords, RevealsWords, RunWords,
+    CheckWords, ColumnWords, Command, CommandFault, EarlyWords, ExcuseWords, FilesCommand,
+    KeyDealWords, KeySource, NeedsWords, ReplayWords, RevealsWords, RunWords,
 };
 use std::alloc::{AllocError, Global};
-use vd_base::Text;
+use vd_base::{Text, Texts};
 use vd_tape::Counts;
 
 /// The command `deal` with these counts and this key, if they are given.
@@ -462,4 +463,34 @@ pub(crate) fn check_of(
         inputs,
         deal,
     }))
+}
+
+/// Copies of texts.
+pub(crate) fn copies(alloc: Global, texts: &[Text]) -> Result<Texts, AllocError>
+    ensures { IfOk result (λ list. list ≡ texts.now) }
+{
+    let mut list = Texts::new(alloc);
+    for text in texts {
+        list.push(text.as_str())?;
+    }
+    Ok(list)
+}
+
+/// The command `column` with these names of columns.
+pub(crate) fn column_of(
+    alloc: Global,
+    host: &Text,
+    file: &Text,
+    columns: &[Text],
+) -> Result<Command, CommandFault>
+    requires { IsTrue (is_name host.now) }
+    ensures { Reads (Some (OnFiles (Column (record { host = host.now; file = file.now; columns = columns.now })))) result }
+{
+    let (host, file) = both(alloc, host, file)?;
+    let columns = copies(alloc, columns)?;
+    Ok(Command::OnFiles(FilesCommand::Column(ColumnWords {
+        host,
+        file,
+        columns,
+    })))
 }

@@ -9,8 +9,8 @@ mod own;
 mod reading;
 
 pub use command::{
-    CheckWords, Command, CommandFault, EarlyWords, ExcuseWords, FilesCommand, HostWords,
-    KeyDealWords, KeySource, NeedsWords, ReplayWords, RevealsWords, RunWords,
+    CheckWords, ColumnWords, Command, CommandFault, EarlyWords, ExcuseWords, FilesCommand,
+    HostWords, KeyDealWords, KeySource, NeedsWords, ReplayWords, RevealsWords, RunWords,
 };
 pub use help_words::help_is_read;
 pub use own::own_text;

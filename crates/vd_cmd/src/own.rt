@@ -2,7 +2,7 @@
 
 ghost use Rattle.std.specs.Prelude.{◌≡◌};
 ghost use Rattle.std.specs.Option.{option_map};
-ghost use Rattle.vd_cmd.specs.Own.{help_of, help_of_certify, help_of_check, help_of_choose, help_of_clear, help_of_compile, help_of_deal, help_of_depends, help_of_draw, help_of_excuse, help_of_gen, help_of_hasten, help_of_host, help_of_host_within, help_of_influences, help_of_labels, help_of_needs, help_of_replay, help_of_reveals, help_of_run, help_of_trial, help_text, help_to_run, help_to_trust, help_to_try, is_either, own_text_of, version_text};
+ghost use Rattle.vd_cmd.specs.Own.{help_of, help_of_certify, help_of_check, help_of_choose, help_of_clear, help_of_column, help_of_compile, help_of_deal, help_of_depends, help_of_draw, help_of_excuse, help_of_gen, help_of_hasten, help_of_host, help_of_host_within, help_of_influences, help_of_labels, help_of_needs, help_of_replay, help_of_reveals, help_of_run, help_of_trial, help_text, help_to_run, help_to_trust, help_to_try, is_either, own_text_of, version_text};
 
 use vd_base::Texts;
 
@@ -38,6 +38,9 @@ To run it:
                                 the program of a host, how many that host takes
   viaduct hasten PROGRAM OUT    store the program of a host again as OUT, with packets that reveal nothing sent earlier:
                                 it waits less often, and its peers need not know
+  viaduct column HOST FILE NAME[*FACTOR] ..
+                                print the section of HOST in an inputs file: of each row of the CSV file FILE, which has
+                                a header, the words of these columns, each times its FACTOR
   viaduct deal HOSTS OWN MULS ANDS PAIRS KEY PREFIX
                                 store PREFIX.i.deal for each host i: OWN own words, and with each other host
                                 MULS and ANDS products and PAIRS pairs, all made from the number KEY; or, where KEY is
@@ -127,6 +130,7 @@ statuses:
   32  HOST can tell INPUTS2 from INPUTS
   33  DEAL was used before
   34  the file of a key has fewer than 32 bytes
+  35  the table in FILE does not give words
 ";
 
 /// The text of `--version`.
@@ -220,6 +224,16 @@ fn help_of_hasten() -> &'static str
     "viaduct hasten PROGRAM OUT
   store the program of a host again as OUT, with packets that reveal nothing sent earlier:
   it waits less often, and its peers need not know
+"
+}
+
+#[tactic(auto, unfolding(crate::specs::Own::help_of_column))]
+fn help_of_column() -> &'static str
+    ensures { result.now ≡ help_of_column }
+{
+    "viaduct column HOST FILE NAME[*FACTOR] ..
+  print the section of HOST in an inputs file: of each row of the CSV file FILE, which has
+  a header, the words of these columns, each times its FACTOR
 "
 }
 
@@ -406,6 +420,8 @@ fn help_to_run(word: &str) -> Option<&'static str>
         Some(help_of_needs())
     } else if word == "hasten" {
         Some(help_of_hasten())
+    } else if word == "column" {
+        Some(help_of_column())
     } else if word == "deal" {
         Some(help_of_deal())
     } else if word == "check" {

@@ -1,19 +1,19 @@
 //! The command that the words of a command line are.
 
-ghost use Rattle.std.specs.Prelude.{◌≡◌, [], ◌∷◌, None, Some, IfOk, IfSome, MatchOption};
-ghost use Rattle.vd_cmd.specs.Commands.{Reads, AreWithin, IsWait, compile_with, counts_in, deal_in, excuse_form_of, fixed_form_of, form_of, host_form_of, key_file, limited_form_of, needs_with, other_form_of, replay_with, reveals_with, unhosted_form_of};
+ghost use Rattle.std.specs.Prelude.{◌≡◌, [], ◌∷◌, None, Some, IfSome, MatchOption};
+ghost use Rattle.vd_cmd.specs.Commands.{Reads, AreWithin, IsWait, column_form_of, compile_with, counts_in, deal_in, excuse_form_of, fixed_form_of, form_of, host_form_of, key_file, limited_form_of, listed_form_of, needs_with, other_form_of, replay_with, reveals_with, unhosted_form_of};
 ghost use Rattle.vd_cmd.specs.declared.command.KeySource.TheVariants.{InFile};
 
 use crate::command::{Command, CommandFault, FilesCommand, HostWords};
 use crate::forms::{
-    certify_of, check_of, choose_of, clear_of, compile_of, deal_drawn, deal_from_file, deal_of,
-    depends_of, draw_of, early_of, excuse_of, gen_of, hasten_of, influences_of, needs_of,
-    replay_of, reveals_all, reveals_one, run_of, trial_of,
+    certify_of, check_of, choose_of, clear_of, column_of, compile_of, copies, deal_drawn,
+    deal_from_file, deal_of, depends_of, draw_of, early_of, excuse_of, gen_of, hasten_of,
+    influences_of, needs_of, replay_of, reveals_all, reveals_one, run_of, trial_of,
 };
 use crate::numbers::number_within;
-use std::alloc::{AllocError, Global};
+use std::alloc::Global;
 use vd_base::limits::{DEAL_ITEMS, HOSTS, SEARCH_BUDGET};
-use vd_base::{Text, Texts};
+use vd_base::{Text, Texts, is_name};
 use vd_gen::COORDINATES;
 use vd_tape::Counts;
 
@@ -216,17 +216,6 @@ fn read_deal(
     }
 }
 
-/// Copies of texts.
-fn copies(alloc: Global, texts: &[Text]) -> Result<Texts, AllocError>
-    ensures { IfOk result (λ list. list ≡ texts.now) }
-{
-    let mut list = Texts::new(alloc);
-    for text in texts {
-        list.push(text.as_str())?;
-    }
-    Ok(list)
-}
-
 /// The command `host` with this limit and these words behind it: three files, and any number of addresses.
 fn read_host(alloc: Global, limit: Option<u32>, words: &[Text]) -> Result<Command, CommandFault>
     requires { IfSome limit IsWait }
@@ -401,13 +390,35 @@ fn read_fixed(alloc: Global, words: &[Text]) -> Result<Command, CommandFault>
     }
 }
 
+/// The command `column` with these words behind it: a host, a file, and one name of a column or more.
+fn read_column(alloc: Global, words: &[Text]) -> Result<Command, CommandFault>
+    ensures { Reads (column_form_of words.now) result }
+{
+    match words {
+        [host, file, _, ..] if is_name(host.as_str().as_bytes()) => {
+            column_of(alloc, host, file, &words[2..])
+        }
+        _ => Err(CommandFault::Usage),
+    }
+}
+
+/// The command of words that are not those of `excuse`, and run no host by themselves.
+fn read_listed(alloc: Global, words: &[Text]) -> Result<Command, CommandFault>
+    ensures { Reads (listed_form_of words.now) result }
+{
+    match words {
+        [word, rest @ ..] if word.as_str() == "column" => read_column(alloc, rest),
+        words => read_fixed(alloc, words),
+    }
+}
+
 /// The command of words that run no host by themselves.
 fn read_unhosted(alloc: Global, words: &[Text]) -> Result<Command, CommandFault>
     ensures { Reads (unhosted_form_of words.now) result }
 {
     match words {
         [word, rest @ ..] if word.as_str() == "excuse" => read_excuse(alloc, rest),
-        words => read_fixed(alloc, words),
+        words => read_listed(alloc, words),
     }
 }
 

@@ -23,7 +23,9 @@ use Rattle.vd_resolve.specs.declared.fault.NameFault.TheVariants as name_fault
 use Rattle.vd_cmd_plan.specs.declared.status.HostStatus.{HostStatus}
 use Rattle.vd_cmd_plan.specs.declared.status.HostStatus.TheVariants as host_status
 use Rattle.vd_cmd_plan.specs.declared.status.Status.{Status}
-use Rattle.vd_cmd_plan.specs.declared.status.Status.TheVariants.{Ended, Memory, Usage, ReadFault, WriteFault, TooLong, Syntax, Names, Flow, NoAssignment, Spent, InputText, DealText, ScheduleText, CertificateText, BadDeal, CertificateRefused, Host, ChildFault, NoHost, NotTwo, HasCommit, DealShort, ViewDiffers, DealUsed, ShortKey}
+use Rattle.vd_cmd_plan.specs.declared.status.Status.TheVariants.{Ended, Memory, Usage, ReadFault, WriteFault, TooLong, Syntax, Names, Flow, NoAssignment, Spent, InputText, DealText, ScheduleText, CertificateText, BadDeal, CertificateRefused, Host, ChildFault, NoHost, NotTwo, HasCommit, DealShort, ViewDiffers, DealUsed, ShortKey, Table}
+use Rattle.vd_cmd_plan.specs.declared.status.TableFault.{TableFault}
+use Rattle.vd_cmd_plan.specs.declared.status.TableFault.TheVariants as table_fault
 
 abbrev pub host_code : HostStatus → ℕ
 host_code (host_status.ProgramText offset) = 14
@@ -64,6 +66,7 @@ code_of (DealShort kind) = 31
 code_of (ViewDiffers place) = 32
 code_of (DealUsed name) = 33
 code_of (ShortKey name length) = 34
+code_of (Table name row column fault) = 35
 
 -- a text that ends in a number
 abbrev pub offset_line : List ℕ → ℕ → List ℕ
@@ -187,6 +190,24 @@ children_line hosts (children_fault.Failed host) = child_line (host_name hosts h
 children_line hosts (children_fault.Line host) = child_line (host_name hosts host) (codes " line\n")
 children_line hosts (children_fault.Status host status) = child_line (host_name hosts host) (codes " " ++ (decimal status ++ codes "\n"))
 
+-- what is wrong with a cell, or with a table
+abbrev pub table_word : TableFault → List ℕ
+table_word table_fault.NoHeader = codes "no header"
+table_word table_fault.NoColumn = codes "no column"
+table_word table_fault.Length = codes "length"
+table_word table_fault.EmptyLine = codes "empty line"
+table_word table_fault.Empty = codes "empty"
+table_word table_fault.Sign = codes "sign"
+table_word table_fault.NoNumber = codes "no number"
+table_word table_fault.Fraction = codes "fraction"
+table_word table_fault.Large = codes "large"
+table_word table_fault.Many = codes "many words"
+
+-- a place in a table as editors know it, and what is wrong there; nothing of what stands in the table
+abbrev pub table_line : (name : List ℕ) → (row column : ℕ) → TableFault → List ℕ
+table_line name row column fault =
+    codes "viaduct: table " ++ (shown name ++ (codes ":" ++ (decimal row ++ (codes ":" ++ (decimal column ++ (codes " " ++ (table_word fault ++ codes "\n")))))))
+
 -- Ended has no line.
 abbrev pub status_line : Status → List ℕ
 status_line Ended = []
@@ -215,6 +236,7 @@ status_line (DealShort kind) = name_line (codes "viaduct: deal short ") (kind_na
 status_line (ViewDiffers place) = offset_line (codes "viaduct: view differs at ") place
 status_line (DealUsed name) = name_line (codes "viaduct: deal used ") name
 status_line (ShortKey name length) = sized_line (codes "viaduct: short key ") name length
+status_line (Table name row column fault) = table_line name row column fault
 
 -- the line goes to err, whole unless err failed
 pub record Says (line : List ℕ) (before now : SinkView) : Type 0 where

@@ -4,12 +4,12 @@ ghost use Rattle.std.specs.Prelude.{◌≡◌, IfSome};
 ghost use Rattle.std.specs.List.{flat_map};
 ghost use Rattle.vd_report.specs.ChoiceLines.{host_name};
 ghost use Rattle.vd_outside.specs.Sink.{WritesAll};
-ghost use Rattle.vd_cmd_plan.specs.Lines.{Says, bad_deal_line, bound_line, certificate_line, child_line, children_line, cost_line, deal_line, flow_line, kind_name, limit_line, memory_line, name_line, schedule_line, sized_line, status_line, syntax_line, rule_line, input_line, offset_line, quantity_name};
+ghost use Rattle.vd_cmd_plan.specs.Lines.{Says, bad_deal_line, bound_line, certificate_line, child_line, children_line, cost_line, deal_line, flow_line, kind_name, limit_line, memory_line, name_line, schedule_line, sized_line, status_line, syntax_line, rule_line, input_line, offset_line, quantity_name, table_line, table_word};
 
-use crate::Status;
 use crate::deliver::write_parts;
 use crate::host_lines::write_host_status;
 use crate::shown::write_named;
+use crate::{Status, TableFault};
 use itoa::Buffer;
 use std::alloc::Global;
 use vd_base::{Failed, HostId, Names};
@@ -86,7 +86,50 @@ fn write_status<E: Sink>(err: &mut E, status: &Status) -> Result<(), Failed>
                 *length,
             )
         }
+        Status::Table(name, row, column, fault) => {
+            write_table(err, name.as_str().as_bytes(), *row, *column, *fault)
+        }
     }
+}
+
+/// What is wrong with a cell, or with a table.
+fn table_word(fault: TableFault) -> &'static [u8]
+    ensures { result.now ≡ table_word fault }
+{
+    match fault {
+        TableFault::NoHeader => b"no header",
+        TableFault::NoColumn => b"no column",
+        TableFault::Length => b"length",
+        TableFault::EmptyLine => b"empty line",
+        TableFault::Empty => b"empty",
+        TableFault::Sign => b"sign",
+        TableFault::NoNumber => b"no number",
+        TableFault::Fraction => b"fraction",
+        TableFault::Large => b"large",
+        TableFault::Many => b"many words",
+    }
+}
+
+/// Writes the line of a table that gives no words, of the place of its first fault.
+fn write_table<E: Sink>(
+    err: &mut E,
+    name: &[u8],
+    row: usize,
+    column: usize,
+    fault: TableFault,
+) -> Result<(), Failed>
+    ensures { WritesAll (table_line name.now row column fault) (E.view err.old) (E.view err.new) result }
+{
+    let mut row_buffer = Buffer::new();
+    let row = row_buffer.format(row as u64).as_bytes();
+    let mut column_buffer = Buffer::new();
+    let column = column_buffer.format(column as u64).as_bytes();
+    write_named(
+        err,
+        b"viaduct: table ",
+        name,
+        &[b":", row, b":", column, b" ", table_word(fault), b"\n"],
+    )
 }
 
 /// Writes a text, a name behind it, and then a number of bytes.

@@ -78,6 +78,31 @@ impl HostStatus {
     }
 }
 
+/// Why a cell of a table, or the table itself, gives no words.
+#[derive(Clone, Copy, Debug)]
+pub enum TableFault {
+    /// The table has no header.
+    NoHeader,
+    /// No cell of the header has this name; it is the name with this number, from 1 on, among those that are asked for.
+    NoColumn,
+    /// A row has another number of cells than the header.
+    Length,
+    /// A line is empty, and others stand behind it.
+    EmptyLine,
+    /// A cell is empty.
+    Empty,
+    /// A cell has a sign.
+    Sign,
+    /// A cell is no decimal number.
+    NoNumber,
+    /// A cell has decimals that its factor does not make whole.
+    Fraction,
+    /// A cell is too long, or comes to 2^32 or more.
+    Large,
+    /// With this row there are more words than a section may have.
+    Many,
+}
+
 /// How a run ended. A fault of a text is carried as the pass that found it gave it; where that wanted memory, or the text was too
 /// long for it, the status is `Memory` or `TooLong`. A search that found no assignment gives back the program that it was made for,
 /// with its least labels.
@@ -135,6 +160,8 @@ pub enum Status {
     DealUsed(Text),
     /// This file of a key has so many bytes, and not 32.
     ShortKey(Text, u32),
+    /// The table in this file gives no words: in this row and this column, both counted from 1 on, of which the header is the first row.
+    Table(Text, usize, usize, TableFault),
 }
 
 impl Status {
@@ -169,6 +196,7 @@ impl Status {
             Status::ViewDiffers(_) => 32,
             Status::DealUsed(_) => 33,
             Status::ShortKey(_, _) => 34,
+            Status::Table(_, _, _, _) => 35,
         }
     }
 }

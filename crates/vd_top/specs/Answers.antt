@@ -1,4 +1,4 @@
--- What a run of `labels`, `certify`, `choose`, `draw`, `reveals`, `compile`, `hasten` or `deal` has shown, where it ended well.
+-- What a run of `labels`, `certify`, `choose`, `draw`, `reveals`, `compile`, `hasten`, `column` or `deal` has shown, where it ended well.
 use Rattle.std.specs.Prelude.{◌≡◌, ℕ, IsTrue, List, ◌++◌, Some}
 use Rattle.vd_outside.specs.Files.{FilesView}
 use Rattle.vd_outside.specs.Sink.{SinkView}
@@ -7,13 +7,15 @@ use Rattle.vd_cmd.specs.Commands.{KeepsLimits, form_of}
 use Rattle.vd_cmd.specs.declared.command.Command.{Command}
 use Rattle.vd_cmd.specs.declared.command.Command.TheVariants.{KeyDeal, OnFiles}
 use Rattle.vd_cmd.specs.declared.command.KeyDealWords.{KeyDealWords}
+use Rattle.vd_cmd.specs.declared.command.ColumnWords.{ColumnWords}
+use Rattle.vd_cmd.specs.declared.command.FilesCommand.TheVariants.{Certify, Choose, Column, Compile, Deal, Draw, Hasten, Labels, Reveals}
 use Rattle.vd_cmd.specs.declared.command.RevealsWords.{RevealsWords}
-use Rattle.vd_cmd.specs.declared.command.FilesCommand.TheVariants.{Certify, Choose, Compile, Deal, Draw, Hasten, Labels, Reveals}
 use Rattle.vd_cmd_plan.specs.declared.status.Status.{Status}
 use Rattle.vd_cmd_plan.specs.declared.status.Status.TheVariants.{Ended}
 use Rattle.vd_cmd_laws.specs.Answers.{TellsChoice, TellsCompiled, TellsLabels, TellsProof}
 use Rattle.vd_cmd_laws.specs.Dealt.{TellsDeal}
 use Rattle.vd_cmd_laws.specs.KeyedDealt.{TellsKeyed}
+use Rattle.vd_cmd_data.specs.Columns.{TellsColumn}
 use Rattle.vd_cmd_draw.specs.Telling.{TellsDrawing}
 use Rattle.vd_cmd_draw.specs.RevealsTelling.{TellsReveals}
 use Rattle.vd_cmd_hasten.specs.Telling.{TellsHastened}
@@ -70,6 +72,12 @@ abbrev pub KeepsHastened : (words : List (List ℕ)) → FilesView → FilesView
 KeepsHastened words before now status =
     (name out : List ℕ) → form_of words ≡ Some (OnFiles (Hasten name out)) → IsTrue before.told → status ≡ Ended
     → TellsHastened name out before.contents now.contents
+
+-- Where they are those of `column`, the file is a table that gives rows of words, and it has printed the section of the host with them.
+abbrev pub KeepsColumn : (words : List (List ℕ)) → FilesView → SinkView → SinkView → Status → Type 0
+KeepsColumn words before out_before out_now status =
+    (column : ColumnWords) → form_of words ≡ Some (OnFiles (Column column)) → IsTrue before.told → IsTrue out_now.told → status ≡ Ended
+    → Adds (TellsColumn column before.contents) out_before out_now
 
 -- Where they are those of `deal`, the files that then stand, read back, are consistent deals of all hosts, and `replay` refuses none.
 abbrev pub KeepsDeal : (words : List (List ℕ)) → FilesView → FilesView → Status → Type 0

@@ -10,7 +10,7 @@ use Rattle.vd_cmd.specs.declared.command.Command.{Command}
 use Rattle.vd_cmd_plan.specs.Lines.{Says, status_line}
 use Rattle.vd_cmd_plan.specs.Runs.{Prints}
 use Rattle.vd_cmd_plan.specs.declared.status.Status.{Status}
-use Rattle.vd_top.specs.Answers.{KeepsChoice, KeepsCompiled, KeepsDeal, KeepsDrawing, KeepsHastened, KeepsKeyed, KeepsLabels, KeepsProof, KeepsReveals}
+use Rattle.vd_top.specs.Answers.{KeepsChoice, KeepsColumn, KeepsCompiled, KeepsDeal, KeepsDrawing, KeepsHastened, KeepsKeyed, KeepsLabels, KeepsProof, KeepsReveals}
 use Rattle.vd_top.specs.Compiled.{KeepsStored, StoresForm}
 use Rattle.vd_top.specs.Early.{EarlyByWords, EarlyForm}
 use Rattle.vd_top.specs.Counts.{CountedForm, KeepsCount, counts_packets, counts_packets_by}
@@ -114,6 +114,8 @@ pub record Keeps (words : List (List ℕ)) (o : Around) (status : Status) : Type
   pub early : EarlyByWords words o.files.0 o.files.1 o.out.0 o.out.1 status
   -- The file that `hasten` stored is the same program, with packets that reveal nothing sent earlier.
   pub hastened : KeepsHastened words o.files.0 o.files.1 status
+  -- `column` has printed the section of the words that the named columns of the table give.
+  pub column : KeepsColumn words o.files.0 o.out.0 o.out.1 status
   -- The files that `deal` stored are read as consistent deals, of which `replay` refuses none.
   pub dealt : KeepsDeal words o.files.0 o.files.1 status
   -- So are those for a key of 32 bytes; each names one dealing, and has the keys of its host's links.

@@ -44,3 +44,6 @@ returns-in-Spent g c = rw c.in-Spent.is c.write_offset.ensures
 
 pub returns-in-ViewDiffers : goal.returns-in-ViewDiffers
 returns-in-ViewDiffers g c = rw c.in-ViewDiffers.is c.write_place-in-ViewDiffers.ensures
+
+pub returns-in-Table : goal.returns-in-Table
+returns-in-Table g c = rw (c.in-Table.is, ← c.as_str-in-Table.ensures, ← c.as_bytes-in-Table.ensures.value) c.write_table.ensures

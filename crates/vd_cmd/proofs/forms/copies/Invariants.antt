@@ -1,5 +1,5 @@
 use Rattle.std.proofs.Common.{◌≡◌, take}
-use Rattle.vd_cmd.proofs.reading.copies.Given as goal
+use Rattle.vd_cmd.proofs.forms.copies.Given as goal
 
 abbrev pub invariant-loop-text : goal.invariant-loop-text
 invariant-loop-text l = l.list ≡ take l.text-index l.texts

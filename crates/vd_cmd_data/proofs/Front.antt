@@ -1,0 +1,2 @@
+-- The lemmas that other crates cite.
+pub use Rattle.vd_cmd_data.proofs.Told.{columns_told}

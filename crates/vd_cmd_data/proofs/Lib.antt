@@ -1,0 +1,5 @@
+pub mod Front
+mod Turns
+mod Answered
+mod Told
+mod Refusing

@@ -1,0 +1,109 @@
+-- The words of a table: of each row below the header the cells of the columns that are asked for.
+use Rattle.std.specs.Prelude.{ℕ, ◌+◌, ◌*◌, ◌/◌, ◌==◌, Bool, ◌||◌, ◌&&◌, not, List, [], ◌∷◌, Option, Some, None, Result, Ok, Err, length, take, drop, nat_eq, nat_le, nat_lt, position, slice_index_or, if◌then◌else◌}
+use Rattle.std.specs.List.{prefix_len}
+use Rattle.std.specs.Str.{bytes_eq}
+use Rattle.csv.specs.Reading.{default_config, records, strip_bom}
+use Rattle.vd_base.specs.Lexical.{number_of}
+use Rattle.vd_base.specs.Limits.{most_input_words}
+use Rattle.vd_cmd_plan.specs.declared.status.Status.{Status}
+use Rattle.vd_cmd_plan.specs.declared.status.Status.TheVariants.{Table}
+use Rattle.vd_cmd_plan.specs.declared.status.TableFault.{TableFault}
+use Rattle.vd_cmd_plan.specs.declared.status.TableFault.TheVariants.{EmptyLine, Length, Many, NoColumn, NoHeader}
+use Rattle.vd_cmd_data.specs.declared.asked.Column.{Column}
+use Rattle.vd_cmd_data.specs.Cells.{cell_word}
+
+-- ---- in turn, with the number of each
+
+abbrev pub before_all : {B : Type 0} → Result B Status → Result (List B) Status → Result (List B) Status
+before_all (Ok b) (Ok bs) = Ok (b ∷ bs)
+before_all (Ok b) (Err status) = Err status
+before_all (Err status) rest = Err status
+
+-- what each comes to, or the first refusal
+unfoldable pub each_from : {A B : Type 0} → (ℕ → A → Result B Status) → ℕ → List A → Result (List B) Status
+each_from f number [] = Ok []
+each_from f number (a ∷ more) = before_all (f number a) (each_from f (number + 1) more)
+
+abbrev pub then_with : {A B : Type 0} → Result A Status → (A → Result B Status) → Result B Status
+then_with (Ok a) next = next a
+then_with (Err status) next = Err status
+
+-- ---- the columns that are asked for
+
+abbrev pub is_plain : ℕ → Bool
+is_plain byte = not (nat_eq byte 42)
+
+-- the factor that a text is, from 1 on
+abbrev pub factor_in : Option ℕ → Option ℕ
+factor_in None = None
+factor_in (Some factor) = if nat_eq factor 0 then None else Some factor
+
+abbrev pub asked_with : (word : List ℕ) → Option ℕ → List ℕ × ℕ
+asked_with word None = (word, 1)
+asked_with word (Some factor) = (take (prefix_len is_plain word) word, factor)
+
+-- the name and the factor: what stands before the first `*` and behind it, where that is a factor, and else the whole word and 1
+abbrev pub asked : (word : List ℕ) → List ℕ × ℕ
+asked word = asked_with word (factor_in (number_of (drop (prefix_len is_plain word + 1) word)))
+
+abbrev pub column_at : (file : List ℕ) → (number factor : ℕ) → Option ℕ → Result Column Status
+column_at file number factor (Some place) = Ok (record { place = place; factor = factor })
+column_at file number factor None = Err (Table file 1 number NoColumn)
+
+-- the first cell of the header that has the name
+abbrev pub column_of : (file : List ℕ) → (header : List (List ℕ)) → (number : ℕ) → (word : List ℕ) → Result Column Status
+column_of file header number word = column_at file number (asked word).1 (position (bytes_eq (asked word).0) header)
+
+-- ---- the words of the rows
+
+abbrev pub as_word : (file : List ℕ) → (row column : ℕ) → Result ℕ TableFault → Result ℕ Status
+as_word file row column (Ok word) = Ok word
+as_word file row column (Err fault) = Err (Table file row column fault)
+
+abbrev pub word_at : (file : List ℕ) → (row : ℕ) → (cells : List (List ℕ)) → (number : ℕ) → Column → Result ℕ Status
+word_at file row cells number column = as_word file row (column.place + 1) (cell_word column.factor (slice_index_or cells column.place []))
+
+-- the words of a row, which has as many cells as the header
+abbrev pub row_words : (file : List ℕ) → (columns : List Column) → (width number : ℕ) → (cells : List (List ℕ)) → Result (List ℕ) Status
+row_words file columns width number cells =
+    if length cells == width then each_from (word_at file number cells) 1 columns else Err (Table file number 1 Length)
+
+-- so many rows of so many words are no more than a section may have
+abbrev pub counted_words : (file : List ℕ) → (columns : List Column) → (width : ℕ) → (rows : List (List (List ℕ))) → Result (List (List ℕ)) Status
+counted_words file columns width rows =
+    if nat_le (length rows * length columns) most_input_words then each_from (row_words file columns width) 2 rows
+    else Err (Table file (most_input_words / length columns + 2) 1 Many)
+
+abbrev pub words_of : (file : List ℕ) → (words : List (List ℕ)) → (records : List (List (List ℕ))) → Result (List (List ℕ)) Status
+words_of file words [] = Err (Table file 1 1 NoHeader)
+words_of file words (header ∷ rows) =
+    then_with (each_from (column_of file header) 1 words) (λ columns. counted_words file columns (length header) rows)
+
+-- ---- empty lines, which a reader of tables passes over
+
+abbrev pub is_break : ℕ → Bool
+is_break byte = nat_eq byte 13 || nat_eq byte 10
+
+-- a byte that ends a line, where the byte before it does not end the same one
+abbrev pub ends_line : (before byte : ℕ) → Bool
+ends_line before byte = is_break byte && not (nat_eq before 13 && nat_eq byte 10)
+
+-- the first line that is empty, where the lines before this one are counted
+unfoldable pub empty_line : (before line : ℕ) → List ℕ → Option ℕ
+empty_line before line [] = None
+empty_line before line (byte ∷ more) =
+    if ends_line before byte then (if is_break before then Some line else empty_line byte (line + 1) more) else empty_line byte line more
+
+-- a text without the ends of lines at its end
+unfoldable pub unended : List ℕ → List ℕ
+unended [] = []
+unended (byte ∷ more) = if is_break byte && nat_eq (length (unended more)) 0 then [] else byte ∷ unended more
+
+abbrev pub refused_line : (file : List ℕ) → Option ℕ → Result (List (List ℕ)) Status → Result (List (List ℕ)) Status
+refused_line file (Some line) result = Err (Table file line 1 EmptyLine)
+refused_line file None result = result
+
+-- the words of the rows of a CSV text, or the first fault of it
+abbrev pub table_words : (file : List ℕ) → (words : List (List ℕ)) → (bytes : List ℕ) → Result (List (List ℕ)) Status
+table_words file words bytes =
+    refused_line file (empty_line 10 1 (unended (strip_bom bytes))) (words_of file words (records default_config (strip_bom bytes)))

@@ -1,0 +1,98 @@
+//! The columns that are asked for.
+
+ghost use Rattle.std.specs.Prelude.{◌≡◌, position};
+ghost use Rattle.std.specs.List.{prefix_len};
+ghost use Rattle.std.specs.Str.{bytes_eq};
+ghost use Rattle.csv.specs.Records.{fields_of};
+ghost use Rattle.vd_cmd_plan.specs.Plans.{Checks};
+ghost use Rattle.vd_cmd_data.specs.Tables.{asked, column_of, each_from, factor_in, is_plain};
+ghost use Rattle.vd_base.specs.Lexical.{number_of};
+
+use crate::table::refused;
+use csv::ByteRecord;
+use std::alloc::Global;
+use vd_base::{Items, Text, number};
+use vd_cmd_plan::{Status, TableFault};
+
+/// Which cell of a row is taken, and the factor of its word.
+#[derive(Clone, Copy, Debug)]
+pub(crate) struct Column {
+    /// The place of the cell, from 0 on.
+    pub place: usize,
+    /// From 1 on.
+    pub factor: u32,
+}
+
+/// How many bytes stand before the first `*`.
+fn plain_len(word: &[u8]) -> usize
+    ensures { result ≡ prefix_len is_plain word.now }
+{
+    word.iter().take_while(|byte| **byte != b'*').count()
+}
+
+/// The factor that a text is, from 1 on.
+fn factor_in(text: &[u8]) -> Option<u32>
+    ensures { result ≡ factor_in (number_of text.now) }
+{
+    match number(text) {
+        Some(0) => None,
+        other => other,
+    }
+}
+
+/// The name and the factor that a word asks for.
+fn asked(word: &[u8]) -> (&[u8], u32)
+    ensures name { result.0.now ≡ (asked word.now).0 }
+    ensures factor { result.1 ≡ (asked word.now).1 }
+{
+    let plain = plain_len(word);
+    if plain == word.len() {
+        return (word, 1);
+    }
+    match factor_in(&word[plain + 1..]) {
+        Some(factor) => (&word[..plain], factor),
+        None => (word, 1),
+    }
+}
+
+/// The place of the first cell with this name.
+fn place_of(header: &ByteRecord, name: &[u8]) -> Option<usize>
+    ensures { result ≡ position (bytes_eq name.now) (fields_of header.now) }
+{
+    header.iter().position(|cell| name == cell)
+}
+
+/// The column that the word with this number asks for.
+fn column_of(
+    alloc: Global,
+    file: &str,
+    header: &ByteRecord,
+    number: usize,
+    word: &str,
+) -> Result<Column, Status>
+    ensures { Checks (column_of file.now (fields_of header.now) number word.now) result }
+{
+    let (name, factor) = asked(word.as_bytes());
+    match place_of(header, name) {
+        Some(place) => Ok(Column { place, factor }),
+        None => Err(refused(alloc, file, 1, number, TableFault::NoColumn)),
+    }
+}
+
+/// The columns that words ask for.
+pub(crate) fn columns_of(
+    alloc: Global,
+    file: &str,
+    header: &ByteRecord,
+    words: &[Text],
+) -> Result<Items<Column>, Status>
+    ensures { Checks (each_from (column_of file.now (fields_of header.now)) 1 words.now) result }
+{
+    let mut columns = Items::new(alloc);
+    let mut number = 1;
+    for word in words {
+        columns.push(column_of(alloc, file, header, number, word.as_str())?)?;
+        number += 1;
+    }
+    Ok(columns)
+}

@@ -1,0 +1,11 @@
+//! The command `column`: the section of an inputs file, from the rows of a table.
+#![tactic(auto)]
+
+mod asked;
+mod cell;
+mod column_command;
+mod section;
+mod table;
+
+pub use column_command::{column, columns_tell};
+pub use section::sections_are_read;
