@@ -1,5 +1,5 @@
 -- The forms of a command line.
-use Rattle.std.specs.Prelude.{◌≡◌, ◌↔◌, ◌<◌, ◌≤◌, ℕ, ◌-◌, ◌^◌, Bool, true, false, IsTrue, ◌&&◌, List, [], ◌∷◌, Option, Some, None, is_some, Result, Err, IfOk, IfSome, if◌then◌else◌, codes, nat_eq}
+use Rattle.std.specs.Prelude.{◌≡◌, ◌↔◌, ◌<◌, ◌≤◌, ℕ, ◌-◌, ◌^◌, Bool, true, false, IsTrue, ◌&&◌, List, [], ◌∷◌, Option, Some, None, is_some, Result, Err, IfOk, IfSome, if◌then◌else◌, codes, length, nat_eq, nat_lt}
 use Rattle.std.specs.Str.{bytes_eq}
 use Rattle.vd_base.specs.Lexical.{is_name}
 use Rattle.vd_base.specs.Limits.{most_hosts, most_deal_items, most_search_budget}
@@ -202,8 +202,8 @@ limited_form_of (seconds ∷ words) = limited_by (number_within 1 most_wait seco
 
 -- the command `column` with these words behind it: a host, a file, and one name of a column or more
 abbrev pub column_form_of : List (List ℕ) → Option Command
-column_form_of (host ∷ file ∷ first ∷ columns) =
-    if is_name host then Some (OnFiles (Column (record { host = host; file = file; columns = first ∷ columns }))) else None
+column_form_of (host ∷ file ∷ columns) =
+    if is_name host && nat_lt 0 (length columns) then Some (OnFiles (Column (record { host = host; file = file; columns = columns }))) else None
 column_form_of words = None
 
 -- the command of words that are not those of `excuse`, and run no host by themselves

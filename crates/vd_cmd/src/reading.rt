@@ -395,8 +395,12 @@ fn read_column(alloc: Global, words: &[Text]) -> Result<Command, CommandFault>
     ensures { Reads (column_form_of words.now) result }
 {
     match words {
-        [host, file, _, ..] if is_name(host.as_str().as_bytes()) => {
-            column_of(alloc, host, file, &words[2..])
+        [host, file, columns @ ..] => {
+            if is_name(host.as_str().as_bytes()) && !columns.is_empty() {
+                column_of(alloc, host, file, columns)
+            } else {
+                Err(CommandFault::Usage)
+            }
         }
         _ => Err(CommandFault::Usage),
     }

@@ -1,5 +1,7 @@
 pub mod Front
 mod Turns
+mod Places
+mod Records
 mod Answered
 mod Told
 mod Refusing

@@ -1,6 +1,5 @@
 -- A table is refused as a table, and as nothing else.
-use Rattle.std.proofs.Common.{◌≡◌, ℕ, ◌+◌, Bool, true, false, List, [], ◌∷◌, Option, Some, None, Result, Ok, Err, length, refl, sym, ◌∙◌, position, nat_le, slice_index_or, if◌then◌else◌, ◌==◌, ◌*◌, ◌/◌}
-use Rattle.std.specs.Str.{bytes_eq}
+use Rattle.std.proofs.Common.{◌≡◌, ℕ, ◌+◌, Bool, true, false, List, [], ◌∷◌, Option, Some, None, Result, Ok, Err, length, refl, sym, ◌∙◌, nat_le, if◌then◌else◌, ◌==◌, ◌*◌, ◌/◌}
 use Rattle.csv.specs.Reading.{default_config, records, strip_bom}
 use Rattle.vd_base.specs.Limits.{most_input_words}
 use Rattle.vd_cmd_plan.specs.declared.status.Status.{Status}
@@ -9,7 +8,7 @@ use Rattle.vd_cmd_plan.specs.declared.status.TableFault.{TableFault}
 use Rattle.vd_cmd_plan.specs.declared.status.TableFault.TheVariants.{EmptyLine, Length, Many}
 use Rattle.vd_cmd_data.specs.declared.asked.Column.{Column}
 use Rattle.vd_cmd_data.specs.Cells.{cell_word}
-use Rattle.vd_cmd_data.specs.Tables.{as_word, asked, before_all, column_at, column_of, counted_words, each_from, empty_line, refused_line, row_words, table_words, then_with, unended, word_at, words_of}
+use Rattle.vd_cmd_data.specs.Tables.{as_word, asked, before_all, cell_of, column_at, column_of, counted_words, each_from, empty_line, place_from, refused_line, row_words, table_words, then_with, word_at, words_of}
 
 -- a value, or a refusal that is no good end
 abbrev pub Refuses : {B : Type 0} → Result B Status → Type 0
@@ -40,8 +39,8 @@ by_test false r other p q = q
 
 row : (file : List ℕ) (columns : List Column) (width number : ℕ) (cells : List (List ℕ)) → Refuses (row_words file columns width number cells)
 row file columns width number cells =
-    by_test (length cells == width) (each_from (word_at file number cells) 1 columns) (Err (Table file number 1 Length))
-    (each (word_at file number cells) (λ n column. word file number (column.place + 1) (cell_word column.factor (slice_index_or cells column.place []))) 1 columns) (λ e. cc e)
+    by_test (length cells == width) (each_from (λ _ column. word_at file number cells column) 1 columns) (Err (Table file number 1 Length))
+    (each (λ _ column. word_at file number cells column) (λ n column. word file number (column.place + 1) (cell_word column.factor (cell_of cells column.place))) 1 columns) (λ e. cc e)
 
 counted : (file : List ℕ) (columns : List Column) (width : ℕ) (rows : List (List (List ℕ))) → Refuses (counted_words file columns width rows)
 counted file columns width rows =
@@ -56,7 +55,7 @@ all_words : (file : List ℕ) (words : List (List ℕ)) (rows : List (List (List
 all_words file words [] = λ e. cc e
 all_words file words (header ∷ rows) =
     then (each_from (column_of file header) 1 words) (λ columns. counted_words file columns (length header) rows)
-    (each (column_of file header) (λ n w. place file n (asked w).1 (position (bytes_eq (asked w).0) header)) 1 words)
+    (each (column_of file header) (λ n w. place file n (asked w).1 (place_from (asked w).0 0 header)) 1 words)
     (λ columns. counted file columns (length header) rows)
 
 by_line : (file : List ℕ) (line : Option ℕ) (r : Result (List (List ℕ)) Status) → Refuses r → Refuses (refused_line file line r)
@@ -70,4 +69,4 @@ as_refusal (Err other) status p is = λ e. p (let same : other ≡ status = cc i
 pub never_ended : (file : List ℕ) (words : List (List ℕ)) (bytes : List ℕ) (status : Status) → table_words file words bytes ≡ Err status → status ≡ Ended → ⊥
 never_ended file words bytes status is =
     as_refusal (table_words file words bytes) status
-    (by_line file (empty_line 10 1 (unended (strip_bom bytes))) (words_of file words (records default_config (strip_bom bytes))) (all_words file words (records default_config (strip_bom bytes)))) is
+    (by_line file (empty_line (strip_bom bytes)) (words_of file words (records default_config (strip_bom bytes))) (all_words file words (records default_config (strip_bom bytes)))) is

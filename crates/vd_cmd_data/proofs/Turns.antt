@@ -1,42 +1,79 @@
 -- Lists of results that are made in turn.
-use Rattle.std.proofs.Common.{◌≡◌, ℕ, ◌+◌, ◌<◌, List, [], ◌∷◌, ◌++◌, length, drop, slice_index_or, Result, Ok, Err, refl, sym, ap, subst, ◌∙◌, arith, append_assoc, zero, suc}
-use Rattle.std.proofs.lemmas.List.{append-nil, drop_all}
+use Rattle.std.proofs.Common.{◌≡◌, ℕ, ◌+◌, ◌<◌, ◌≤◌, suc, List, [], ◌∷◌, ◌++◌, length, drop, get_or, Result, Ok, Err, refl, sym, ap, subst, ◌∙◌, arith, append-nil, append_assoc, add-one, drop-cons}
+use Rattle.std.proofs.Math.ListN.{drop_of_length-le}
+use Rattle.vd_cmd_plan.specs.Plans.{Checks, IsRefusal}
 use Rattle.vd_cmd_plan.specs.declared.status.Status.{Status}
+use Rattle.vd_cmd_plan.specs.declared.status.Status.TheVariants.{ChildFault, Ended, Host, Memory, NoAssignment, ReadFault, Usage, WriteFault}
 use Rattle.vd_cmd_data.specs.Tables.{before_all, each_from}
+
+-- a refusal of the one is a refusal of the other, where the one's is the other's
+pub refused_on : {T U : Type 0} (wanted : Result T Status) (other : Result U Status) (status : Status) → (wanted ≡ Err status → other ≡ Err status)
+    → IsRefusal wanted status → IsRefusal other status
+refused_on wanted other Ended on is = is
+refused_on wanted other (NoAssignment labelled) on is = is
+refused_on wanted other Memory on is = tt
+refused_on wanted other Usage on is = is
+refused_on wanted other (ReadFault name) on is = is
+refused_on wanted other WriteFault on is = is
+refused_on wanted other (Host cause) on is = (is.0, on is.1)
+refused_on wanted other (ChildFault hosts fault) on is = is
+refused_on wanted other status on is = on is
 
 -- values that are there already, before the rest
 abbrev pub after : {B : Type 0} → List B → Result (List B) Status → Result (List B) Status
 after done (Ok more) = Ok (done ++ more)
 after done (Err status) = Err status
 
-pub after_none : {B : Type 0} (r : Result (List B) Status) → r ≡ after [] r
+after_none : {B : Type 0} (r : Result (List B) Status) → r ≡ after [] r
 after_none (Ok more) = refl
 after_none (Err status) = refl
 
-pub after_one : {B : Type 0} (done : List B) (b : B) (r : Result (List B) Status) → after done (before_all (Ok b) r) ≡ after (done ++ b ∷ []) r
+after_one : {B : Type 0} (done : List B) (b : B) (r : Result (List B) Status) → after done (before_all (Ok b) r) ≡ after (done ++ b ∷ []) r
 after_one done b (Ok more) = ap (λ l. Ok l) (sym (append_assoc done (b ∷ []) more))
 after_one done b (Err status) = refl
 
-pub next_each : {A B : Type 0} (f : ℕ → A → Result B Status) (n : ℕ) (a : A) (more : List A) → each_from f n (a ∷ more) ≡ before_all (f n a) (each_from f (n + 1) more)
+next_each : {A B : Type 0} (f : ℕ → A → Result B Status) (n : ℕ) (a : A) (more : List A) → each_from f n (a ∷ more) ≡ before_all (f n a) (each_from f (n + 1) more)
 unfolding each_from
 next_each f n a more = refl
 
-pub none_each : {A B : Type 0} (f : ℕ → A → Result B Status) (n : ℕ) → each_from f n [] ≡ Ok []
+none_each : {A B : Type 0} (f : ℕ → A → Result B Status) (n : ℕ) → each_from f n [] ≡ Ok []
 unfolding each_from
 none_each f n = refl
 
--- the next one
-pub each_more : {A B : Type 0} (f : ℕ → A → Result B Status) (n : ℕ) (a : A) (more : List A) (whole : Result (List B) Status) (done : List B) (b : B)
-    → whole ≡ after done (each_from f n (a ∷ more)) → f n a ≡ Ok b → whole ≡ after (done ++ b ∷ []) (each_from f (n + 1) more)
-each_more f n a more whole done b so_far is =
-    so_far ∙ (ap (after done) (next_each f n a more) ∙ (ap (λ r. after done (before_all r (each_from f (n + 1) more))) is ∙ after_one done b (each_from f (n + 1) more)))
+module _ {A B : Type 0} (f : ℕ → A → Result B Status) (start : ℕ) (list : List A) where
+  -- so many are done, and came to these
+  abbrev pub Done : ℕ → List B → Type 0
+  Done i done = each_from f start list ≡ after done (each_from f (i + start) (drop i list))
 
--- the first refusal
-pub each_refused : {A B : Type 0} (f : ℕ → A → Result B Status) (n : ℕ) (a : A) (more : List A) (whole : Result (List B) Status) (done : List B) (status : Status)
-    → whole ≡ after done (each_from f n (a ∷ more)) → f n a ≡ Err status → whole ≡ Err status
-each_refused f n a more whole done status so_far is =
-    so_far ∙ (ap (after done) (next_each f n a more) ∙ ap (λ r. after done (before_all r (each_from f (n + 1) more))) is)
+  pub none_done : Done 0 []
+  none_done = let same : 0 + start ≡ start = omega arith in rw same (after_none (each_from f start list))
 
--- the end
-pub each_done : {A B : Type 0} (f : ℕ → A → Result B Status) (n : ℕ) (whole : Result (List B) Status) (done : List B) → whole ≡ after done (each_from f n []) → whole ≡ Ok done
-each_done f n whole done so_far = so_far ∙ (ap (after done) (none_each f n) ∙ ap (λ l. Ok l) (append-nil done))
+  next_is : (i : ℕ) (a : A) → i < length list → a ≡ get_or list i a → drop i list ≡ a ∷ drop (i + 1) list
+  next_is i a lt is = rw (add-one i) (drop-cons list i a lt ∙ ap (λ (x : A). x ∷ drop (suc i) list) (sym is))
+
+  next_from : (i : ℕ) (done : List B) (a : A) → i < length list → a ≡ get_or list i a → Done i done
+      → each_from f start list ≡ after done (before_all (f (i + start) a) (each_from f (i + start + 1) (drop (i + 1) list)))
+  next_from i done a lt is so_far =
+      so_far ∙ ap (λ l. after done (each_from f (i + start) l)) (next_is i a lt is) ∙ ap (after done) (next_each f (i + start) a (drop (i + 1) list))
+
+  pub one_done : (i : ℕ) (done : List B) (a : A) (b : B) → i < length list → a ≡ get_or list i a → Done i done → f (i + start) a ≡ Ok b → Done (i + 1) (done ++ b ∷ [])
+  one_done i done a b lt is so_far ok =
+      let places : i + start + 1 ≡ i + 1 + start = omega arith in
+      next_from i done a lt is so_far
+      ∙ ap (λ r. after done (before_all r (each_from f (i + start + 1) (drop (i + 1) list)))) ok
+      ∙ after_one done b (each_from f (i + start + 1) (drop (i + 1) list))
+      ∙ ap (λ n. after (done ++ b ∷ []) (each_from f n (drop (i + 1) list))) places
+
+  pub one_refused : (i : ℕ) (done : List B) (a : A) (status : Status) → i < length list → a ≡ get_or list i a → Done i done → IsRefusal (f (i + start) a) status
+      → Checks {T = List B} (each_from f start list) (Err status)
+  one_refused i done a status lt is so_far refusal = record {
+    ok = tt;
+    err = refused_on (f (i + start) a) (each_from f start list) status
+        (λ e. next_from i done a lt is so_far ∙ ap (λ r. after done (before_all r (each_from f (i + start + 1) (drop (i + 1) list)))) e) refusal;
+  }
+
+  pub all_done : (i : ℕ) (done : List B) → length list ≤ i → Done i done → Checks (each_from f start list) (Ok done)
+  all_done i done le so_far = record {
+    ok = so_far ∙ ap (λ l. after done (each_from f (i + start) l)) (drop_of_length-le list le) ∙ ap (after done) (none_each f (i + start)) ∙ ap (λ l. Ok l) (append-nil done);
+    err = tt;
+  }

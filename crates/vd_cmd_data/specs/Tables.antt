@@ -1,8 +1,9 @@
 -- The words of a table: of each row below the header the cells of the columns that are asked for.
-use Rattle.std.specs.Prelude.{ℕ, ◌+◌, ◌*◌, ◌/◌, ◌==◌, Bool, ◌||◌, ◌&&◌, not, List, [], ◌∷◌, Option, Some, None, Result, Ok, Err, length, take, drop, nat_eq, nat_le, nat_lt, position, slice_index_or, if◌then◌else◌}
-use Rattle.std.specs.List.{prefix_len}
+use Rattle.std.specs.Prelude.{ℕ, ◌+◌, ◌*◌, ◌/◌, ◌==◌, Bool, ◌||◌, ◌&&◌, not, List, [], ◌∷◌, Option, Some, None, Result, Ok, Err, length, take, drop, nat_eq, nat_le, unwrap_or, if◌then◌else◌}
+use Rattle.std.specs.List.{fold, prefix_len}
 use Rattle.std.specs.Str.{bytes_eq}
 use Rattle.csv.specs.Reading.{default_config, records, strip_bom}
+use Rattle.csv.specs.Records.{field_at}
 use Rattle.vd_base.specs.Lexical.{number_of}
 use Rattle.vd_base.specs.Limits.{most_input_words}
 use Rattle.vd_cmd_plan.specs.declared.status.Status.{Status}
@@ -10,6 +11,7 @@ use Rattle.vd_cmd_plan.specs.declared.status.Status.TheVariants.{Table}
 use Rattle.vd_cmd_plan.specs.declared.status.TableFault.{TableFault}
 use Rattle.vd_cmd_plan.specs.declared.status.TableFault.TheVariants.{EmptyLine, Length, Many, NoColumn, NoHeader}
 use Rattle.vd_cmd_data.specs.declared.asked.Column.{Column}
+use Rattle.vd_cmd_data.specs.declared.lines.LineScan.{LineScan}
 use Rattle.vd_cmd_data.specs.Cells.{cell_word}
 
 -- ---- in turn, with the number of each
@@ -44,7 +46,14 @@ asked_with word (Some factor) = (take (prefix_len is_plain word) word, factor)
 
 -- the name and the factor: what stands before the first `*` and behind it, where that is a factor, and else the whole word and 1
 abbrev pub asked : (word : List ℕ) → List ℕ × ℕ
-asked word = asked_with word (factor_in (number_of (drop (prefix_len is_plain word + 1) word)))
+asked word =
+    if prefix_len is_plain word == length word then (word, 1)
+    else asked_with word (factor_in (number_of (drop (prefix_len is_plain word + 1) word)))
+
+-- the first cell with this name, where the first of these cells has this place
+unfoldable pub place_from : (name : List ℕ) → (place : ℕ) → (cells : List (List ℕ)) → Option ℕ
+place_from name place [] = None
+place_from name place (cell ∷ more) = if bytes_eq name cell then Some place else place_from name (place + 1) more
 
 abbrev pub column_at : (file : List ℕ) → (number factor : ℕ) → Option ℕ → Result Column Status
 column_at file number factor (Some place) = Ok (record { place = place; factor = factor })
@@ -52,7 +61,7 @@ column_at file number factor None = Err (Table file 1 number NoColumn)
 
 -- the first cell of the header that has the name
 abbrev pub column_of : (file : List ℕ) → (header : List (List ℕ)) → (number : ℕ) → (word : List ℕ) → Result Column Status
-column_of file header number word = column_at file number (asked word).1 (position (bytes_eq (asked word).0) header)
+column_of file header number word = column_at file number (asked word).1 (place_from (asked word).0 0 header)
 
 -- ---- the words of the rows
 
@@ -60,13 +69,16 @@ abbrev pub as_word : (file : List ℕ) → (row column : ℕ) → Result ℕ Tab
 as_word file row column (Ok word) = Ok word
 as_word file row column (Err fault) = Err (Table file row column fault)
 
-abbrev pub word_at : (file : List ℕ) → (row : ℕ) → (cells : List (List ℕ)) → (number : ℕ) → Column → Result ℕ Status
-word_at file row cells number column = as_word file row (column.place + 1) (cell_word column.factor (slice_index_or cells column.place []))
+abbrev pub cell_of : (cells : List (List ℕ)) → (place : ℕ) → List ℕ
+cell_of cells place = unwrap_or (field_at cells place) []
+
+abbrev pub word_at : (file : List ℕ) → (row : ℕ) → (cells : List (List ℕ)) → Column → Result ℕ Status
+word_at file row cells column = as_word file row (column.place + 1) (cell_word column.factor (cell_of cells column.place))
 
 -- the words of a row, which has as many cells as the header
 abbrev pub row_words : (file : List ℕ) → (columns : List Column) → (width number : ℕ) → (cells : List (List ℕ)) → Result (List ℕ) Status
 row_words file columns width number cells =
-    if length cells == width then each_from (word_at file number cells) 1 columns else Err (Table file number 1 Length)
+    if length cells == width then each_from (λ _ column. word_at file number cells column) 1 columns else Err (Table file number 1 Length)
 
 -- so many rows of so many words are no more than a section may have
 abbrev pub counted_words : (file : List ℕ) → (columns : List Column) → (width : ℕ) → (rows : List (List (List ℕ))) → Result (List (List ℕ)) Status
@@ -88,16 +100,23 @@ is_break byte = nat_eq byte 13 || nat_eq byte 10
 abbrev pub ends_line : (before byte : ℕ) → Bool
 ends_line before byte = is_break byte && not (nat_eq before 13 && nat_eq byte 10)
 
--- the first line that is empty, where the lines before this one are counted
-unfoldable pub empty_line : (before line : ℕ) → List ℕ → Option ℕ
-empty_line before line [] = None
-empty_line before line (byte ∷ more) =
-    if ends_line before byte then (if is_break before then Some line else empty_line byte (line + 1) more) else empty_line byte line more
+abbrev pub first_of : Option ℕ → Option ℕ → Option ℕ
+first_of (Some line) other = Some line
+first_of None other = other
 
--- a text without the ends of lines at its end
-unfoldable pub unended : List ℕ → List ℕ
-unended [] = []
-unended (byte ∷ more) = if is_break byte && nat_eq (length (unended more)) 0 then [] else byte ∷ unended more
+-- a line is empty where a line ends right behind the end of another; that counts once something stands behind it
+abbrev pub after_byte : LineScan → (byte : ℕ) → LineScan
+after_byte scan byte =
+    if ends_line scan.before byte
+    then record { before = byte; line = scan.line + 1; first = if is_break scan.before then first_of scan.first (Some scan.line) else scan.first; empty = scan.empty }
+    else record { before = byte; line = scan.line; first = scan.first; empty = if is_break byte then scan.empty else first_of scan.empty scan.first }
+
+abbrev pub scan_start : LineScan
+scan_start = record { before = 10; line = 1; first = None; empty = None }
+
+-- the first line that is empty and has others behind it
+abbrev pub empty_line : List ℕ → Option ℕ
+empty_line text = (fold after_byte scan_start text).empty
 
 abbrev pub refused_line : (file : List ℕ) → Option ℕ → Result (List (List ℕ)) Status → Result (List (List ℕ)) Status
 refused_line file (Some line) result = Err (Table file line 1 EmptyLine)
@@ -106,4 +125,4 @@ refused_line file None result = result
 -- the words of the rows of a CSV text, or the first fault of it
 abbrev pub table_words : (file : List ℕ) → (words : List (List ℕ)) → (bytes : List ℕ) → Result (List (List ℕ)) Status
 table_words file words bytes =
-    refused_line file (empty_line 10 1 (unended (strip_bom bytes))) (words_of file words (records default_config (strip_bom bytes)))
+    refused_line file (empty_line (strip_bom bytes)) (words_of file words (records default_config (strip_bom bytes)))

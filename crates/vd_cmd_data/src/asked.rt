@@ -1,14 +1,13 @@
 //! The columns that are asked for.
 
-ghost use Rattle.std.specs.Prelude.{◌≡◌, position};
+ghost use Rattle.std.specs.Prelude.{◌≡◌};
 ghost use Rattle.std.specs.List.{prefix_len};
-ghost use Rattle.std.specs.Str.{bytes_eq};
 ghost use Rattle.csv.specs.Records.{fields_of};
 ghost use Rattle.vd_cmd_plan.specs.Plans.{Checks};
-ghost use Rattle.vd_cmd_data.specs.Tables.{asked, column_of, each_from, factor_in, is_plain};
+ghost use Rattle.vd_cmd_data.specs.Tables.{asked, column_of, each_from, factor_in, is_plain, place_from};
 ghost use Rattle.vd_base.specs.Lexical.{number_of};
 
-use crate::table::refused;
+use crate::table::{cell_at, refused};
 use csv::ByteRecord;
 use std::alloc::Global;
 use vd_base::{Items, Text, number};
@@ -41,6 +40,7 @@ fn factor_in(text: &[u8]) -> Option<u32>
 }
 
 /// The name and the factor that a word asks for.
+#[tactic(auto, using(crate::proofs::Places::behind_is))]
 fn asked(word: &[u8]) -> (&[u8], u32)
     ensures name { result.0.now ≡ (asked word.now).0 }
     ensures factor { result.1 ≡ (asked word.now).1 }
@@ -56,10 +56,16 @@ fn asked(word: &[u8]) -> (&[u8], u32)
 }
 
 /// The place of the first cell with this name.
+#[tactic(auto, using(crate::proofs::Places::next_place, crate::proofs::Places::found_place, crate::proofs::Places::no_place))]
 fn place_of(header: &ByteRecord, name: &[u8]) -> Option<usize>
-    ensures { result ≡ position (bytes_eq name.now) (fields_of header.now) }
+    ensures { result ≡ place_from name.now 0 (fields_of header.now) }
 {
-    header.iter().position(|cell| name == cell)
+    for place in 0..header.len() {
+        if name == cell_at(header, place) {
+            return Some(place);
+        }
+    }
+    None
 }
 
 /// The column that the word with this number asks for.
@@ -80,6 +86,7 @@ fn column_of(
 }
 
 /// The columns that words ask for.
+#[tactic(auto, using(crate::proofs::Turns::none_done, crate::proofs::Turns::one_done, crate::proofs::Turns::one_refused, crate::proofs::Turns::all_done))]
 pub(crate) fn columns_of(
     alloc: Global,
     file: &str,
@@ -89,10 +96,9 @@ pub(crate) fn columns_of(
     ensures { Checks (each_from (column_of file.now (fields_of header.now)) 1 words.now) result }
 {
     let mut columns = Items::new(alloc);
-    let mut number = 1;
-    for word in words {
-        columns.push(column_of(alloc, file, header, number, word.as_str())?)?;
-        number += 1;
+    for (index, word) in words.iter().enumerate() {
+        let column = column_of(alloc, file, header, index + 1, word.as_str())?;
+        columns.push(column)?;
     }
     Ok(columns)
 }

@@ -35,11 +35,7 @@ fn column_bytes(alloc: Global, words: &ColumnWords, bytes: &[u8]) -> Result<Answ
 }
 
 /// The command `column`: prints the section of a host in an inputs file, of the rows of a CSV file.
-pub fn column<F: Files>(
-    alloc: Global,
-    files: &mut F,
-    words: &ColumnWords,
-) -> Result<Answer, Status>
+pub fn column<F: Files>(alloc: Global, files: &mut F, words: &ColumnWords) -> Result<Answer, Status>
     ensures { ExecutesColumn words.now (F.view files.old) (F.view files.new) result }
 {
     let bytes = load(alloc, files, words.file.as_str(), INPUTS_BYTES)?;

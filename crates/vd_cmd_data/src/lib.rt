@@ -4,6 +4,7 @@
 mod asked;
 mod cell;
 mod column_command;
+mod lines;
 mod section;
 mod table;
 

@@ -1,15 +1,17 @@
 //! The rows of a table, and the words of the columns that are asked for.
 
-ghost use Rattle.std.specs.Prelude.{◌≡◌, ℕ, Err, IfOk, map, length};
-ghost use Rattle.csv.specs.Reading.{default_config, records, strip_bom};
+ghost use Rattle.std.specs.Prelude.{◌≡◌, ℕ, Err, IfErr, IfOk, map, length};
+ghost use Rattle.csv.specs.Reading.{AreRecords, default_config, records, strip_bom};
+ghost use Rattle.csv.specs.declared.parser.State.TheVariants as st;
 ghost use Rattle.csv.specs.Records.{fields_of};
 ghost use Rattle.vd_cmd_plan.specs.Plans.{Checks, IsRefusal};
-ghost use Rattle.vd_cmd_plan.specs.declared.status.Status.TheVariants.{Table};
+ghost use Rattle.vd_cmd_plan.specs.declared.status.Status.TheVariants.{Memory, Table};
 ghost use Rattle.vd_cmd_data.specs.Tables as tables;
 
 use crate::asked::{Column, columns_of};
 use crate::cell::cell_word;
-use csv::{ByteRecord, ReaderBuilder};
+use crate::lines::empty_line;
+use csv::{ByteRecord, Error, ReaderBuilder};
 use std::alloc::Global;
 use vd_base::limits::INPUT_WORDS;
 use vd_base::{Items, Text, Texts, Words};
@@ -31,10 +33,9 @@ pub(crate) fn refused(
     }
 }
 
-/// All records of a CSV text, the header too. A slice is read without a fault, and records may have any lengths: so what can fail here
-/// is memory.
-fn records_of(alloc: Global, text: &[u8]) -> Result<Vec<ByteRecord>, Status>
-    ensures { IfOk result (λ rows. map fields_of rows.items ≡ records default_config (strip_bom text.now)) }
+/// All records of a CSV text, the header too.
+fn read_records(alloc: Global, text: &[u8]) -> Result<Vec<ByteRecord>, Error>
+    ensures { IfOk result (λ rows. AreRecords default_config st.StartRecord (strip_bom text.now) (map fields_of rows.items)) }
 {
     let reader = ReaderBuilder::new()
         .has_headers(false)
@@ -42,15 +43,32 @@ fn records_of(alloc: Global, text: &[u8]) -> Result<Vec<ByteRecord>, Status>
         .from_reader(alloc, text);
     let mut rows = Vec::new(alloc);
     for row in reader.into_byte_records() {
-        let kept = match row {
-            Ok(row) => rows.push(row).is_ok(),
-            Err(_) => false,
-        };
-        if !kept {
-            return Err(Status::Memory);
+        if rows.push(row?).is_err() {
+            return Err(Error::out_of_memory());
         }
     }
     Ok(rows)
+}
+
+/// The same. A slice is read without a fault, and records may have any lengths: so what can fail here is memory.
+fn records_of(alloc: Global, text: &[u8]) -> Result<Vec<ByteRecord>, Status>
+    ensures ok { IfOk result (λ rows. map fields_of rows.items ≡ records default_config (strip_bom text.now)) }
+    ensures err { IfErr result (λ status. status ≡ Memory) }
+{
+    match read_records(alloc, text) {
+        Ok(rows) => Ok(rows),
+        Err(_) => Err(Status::Memory),
+    }
+}
+
+/// The cell at a place, empty where there is none.
+pub(crate) fn cell_at(row: &ByteRecord, place: usize) -> &[u8]
+    ensures { result.now ≡ tables.cell_of (fields_of row.now) place }
+{
+    match row.get(place) {
+        Some(cell) => cell,
+        None => &[],
+    }
 }
 
 /// The word of a column in a row.
@@ -61,16 +79,16 @@ fn word_at(
     row: &ByteRecord,
     column: Column,
 ) -> Result<u32, Status>
-    ensures { (n : ℕ) → Checks (tables.word_at file.now number (fields_of row.now) n column) result }
+    ensures { Checks (tables.word_at file.now number (fields_of row.now) column) result }
 {
-    let cell = row.get(column.place).unwrap_or(&[]);
-    match cell_word(column.factor, cell) {
+    match cell_word(column.factor, cell_at(row, column.place)) {
         Ok(word) => Ok(word),
         Err(fault) => Err(refused(alloc, file, number, column.place + 1, fault)),
     }
 }
 
 /// The words of the columns in a row.
+#[tactic(auto, using(crate::proofs::Turns::none_done, crate::proofs::Turns::one_done, crate::proofs::Turns::one_refused, crate::proofs::Turns::all_done))]
 fn words_at(
     alloc: Global,
     file: &str,
@@ -78,11 +96,12 @@ fn words_at(
     number: usize,
     row: &ByteRecord,
 ) -> Result<Words, Status>
-    ensures { Checks (tables.each_from (tables.word_at file.now number (fields_of row.now)) 1 columns.now) result }
+    ensures { Checks (tables.each_from (λ _ column. tables.word_at file.now number (fields_of row.now) column) 1 columns.now) result }
 {
     let mut words = Words::new(alloc);
     for column in columns {
-        words.push(word_at(alloc, file, number, row, *column)?)?;
+        let word = word_at(alloc, file, number, row, *column)?;
+        words.push(word)?;
     }
     Ok(words)
 }
@@ -106,6 +125,7 @@ fn row_words(
 }
 
 /// The words of all rows.
+#[tactic(auto, using(crate::proofs::Turns::none_done, crate::proofs::Turns::one_done, crate::proofs::Turns::one_refused, crate::proofs::Turns::all_done))]
 fn rows_words(
     alloc: Global,
     file: &str,
@@ -116,10 +136,9 @@ fn rows_words(
     ensures { Checks (tables.each_from (tables.row_words file.now columns.now width) 2 (map fields_of rows.now)) result }
 {
     let mut list = Items::new(alloc);
-    let mut number = 2;
-    for row in rows {
-        list.push(row_words(alloc, file, columns, width, number, row)?)?;
-        number += 1;
+    for (index, row) in rows.iter().enumerate() {
+        let words = row_words(alloc, file, columns, width, index + 2, row)?;
+        list.push(words)?;
     }
     Ok(list)
 }
@@ -159,42 +178,6 @@ fn words_of(
     counted_words(alloc, file, columns.as_slice(), header.len(), rows)
 }
 
-/// Whether a byte ends a line.
-fn is_break(byte: u8) -> bool
-    ensures { result ≡ tables.is_break byte }
-{
-    byte == b'\r' || byte == b'\n'
-}
-
-/// A text without the ends of lines at its end.
-fn unended(text: &[u8]) -> &[u8]
-    ensures { result.now ≡ tables.unended text.now }
-{
-    let mut len = text.len();
-    while len > 0 && is_break(text[len - 1]) {
-        len -= 1;
-    }
-    &text[..len]
-}
-
-/// The first line that is empty.
-fn empty_line(text: &[u8]) -> Option<usize>
-    ensures { result ≡ tables.empty_line 10 1 text.now }
-{
-    let mut before = b'\n';
-    let mut line = 1;
-    for byte in text {
-        if is_break(*byte) && !(before == b'\r' && *byte == b'\n') {
-            if is_break(before) {
-                return Some(line);
-            }
-            line += 1;
-        }
-        before = *byte;
-    }
-    None
-}
-
 /// A text without the byte order mark at its start.
 fn without_mark(bytes: &[u8]) -> &[u8]
     ensures { result.now ≡ strip_bom bytes.now }
@@ -214,7 +197,7 @@ pub(crate) fn table_words(
 ) -> Result<Items<Words>, Status>
     ensures { Checks (tables.table_words file.now words.now bytes.now) result }
 {
-    if let Some(line) = empty_line(unended(without_mark(bytes))) {
+    if let Some(line) = empty_line(without_mark(bytes)) {
         return Err(refused(alloc, file, line, 1, TableFault::EmptyLine));
     }
     let records = records_of(alloc, bytes)?;
