@@ -9,4 +9,3 @@ mod section;
 mod table;
 
 pub use column_command::{column, columns_tell};
-pub use section::sections_are_read;

@@ -1,7 +1,7 @@
 //! A section of an inputs file.
 
 ghost use Rattle.std.specs.Prelude.{◌≡◌, ◌++◌, IfOk, OnOk};
-ghost use Rattle.vd_cmd_data.specs.Sections.{SectionsAreRead, row_line, section_text};
+ghost use Rattle.vd_cmd_data.specs.Sections.{row_line, section_text};
 ghost use Rattle.vd_report.specs.Lines.{number_field};
 
 use itoa::Buffer;
@@ -41,8 +41,3 @@ pub(crate) fn section_text(
     }
     Ok(text)
 }
-
-/// The printed section is read as an inputs file, and gives its host these words.
-pub fn sections_are_read()
-    ensures { SectionsAreRead }
-{}
