@@ -3,8 +3,9 @@ use Rattle.std.proofs.Common.{◌≡◌, ℕ, ◌+◌, ◌<◌, ◌≤◌, suc, 
 use Rattle.std.proofs.Math.ListN.{drop_of_length-le}
 use Rattle.vd_cmd_plan.specs.Plans.{Checks, IsRefusal}
 use Rattle.vd_cmd_plan.specs.declared.status.Status.{Status}
-use Rattle.vd_cmd_plan.specs.declared.status.Status.TheVariants.{ChildFault, Ended, Host, Memory, NoAssignment, ReadFault, Usage, WriteFault}
-use Rattle.vd_cmd_data.specs.Tables.{before_all, each_from}
+use Rattle.vd_cmd_plan.specs.declared.status.Status.TheVariants.{ChildFault, Ended, Host, Memory, NoAssignment, ReadFault, Table, Usage, WriteFault}
+use Rattle.vd_cmd_plan.specs.declared.status.TableFault.{TableFault}
+use Rattle.vd_cmd_data.specs.Tables.{IsRefusalAt, before_all, each_from}
 
 -- a refusal of the one is a refusal of the other, where the one's is the other's
 pub refused_on : {T U : Type 0} (wanted : Result T Status) (other : Result U Status) (status : Status) → (wanted ≡ Err status → other ≡ Err status)
@@ -18,6 +19,15 @@ refused_on wanted other WriteFault on is = is
 refused_on wanted other (Host cause) on is = (is.0, on is.1)
 refused_on wanted other (ChildFault hosts fault) on is = is
 refused_on wanted other status on is = on is
+
+-- a table is refused where its definition does so
+pub refused_there : {T : Type 0} (file : List ℕ) (row column : ℕ) (fault : TableFault) (wanted : Result T Status) (status : Status) → wanted ≡ Err (Table file row column fault)
+    → IsRefusalAt file row column fault status → Checks wanted (Err status)
+refused_there {T} file row column fault wanted status eq at = record { ok = tt; err = by status at }
+  where
+    by : (other : Status) → IsRefusalAt file row column fault other → IsRefusal {T = T} wanted other
+    by Memory is = tt
+    by other is = subst (λ (s : Status). IsRefusal {T = T} wanted s) (sym is) eq
 
 -- values that are there already, before the rest
 abbrev pub after : {B : Type 0} → List B → Result (List B) Status → Result (List B) Status

@@ -1,5 +1,5 @@
 -- The words of a table: of each row below the header the cells of the columns that are asked for.
-use Rattle.std.specs.Prelude.{ℕ, ◌+◌, ◌*◌, ◌/◌, ◌==◌, Bool, ◌||◌, ◌&&◌, not, List, [], ◌∷◌, Option, Some, None, Result, Ok, Err, length, take, drop, nat_eq, nat_le, unwrap_or, if◌then◌else◌}
+use Rattle.std.specs.Prelude.{◌≡◌, ℕ, ◌+◌, ◌*◌, ◌/◌, ◌==◌, Bool, ◌||◌, ◌&&◌, not, List, [], ◌∷◌, Option, Some, None, Result, Ok, Err, length, take, drop, nat_eq, nat_le, unwrap_or, if◌then◌else◌}
 use Rattle.std.specs.List.{fold, prefix_len}
 use Rattle.std.specs.Str.{bytes_eq}
 use Rattle.csv.specs.Reading.{default_config, records, strip_bom}
@@ -7,12 +7,17 @@ use Rattle.csv.specs.Records.{field_at}
 use Rattle.vd_base.specs.Lexical.{number_of}
 use Rattle.vd_base.specs.Limits.{most_input_words}
 use Rattle.vd_cmd_plan.specs.declared.status.Status.{Status}
-use Rattle.vd_cmd_plan.specs.declared.status.Status.TheVariants.{Table}
+use Rattle.vd_cmd_plan.specs.declared.status.Status.TheVariants.{Memory, Table}
 use Rattle.vd_cmd_plan.specs.declared.status.TableFault.{TableFault}
 use Rattle.vd_cmd_plan.specs.declared.status.TableFault.TheVariants.{EmptyLine, Length, Many, NoColumn, NoHeader}
 use Rattle.vd_cmd_data.specs.declared.asked.Column.{Column}
 use Rattle.vd_cmd_data.specs.declared.lines.LineScan.{LineScan}
 use Rattle.vd_cmd_data.specs.Cells.{cell_word}
+
+-- a table is refused by its place and fault, or there was no memory for that
+abbrev pub IsRefusalAt : (file : List ℕ) → (row column : ℕ) → TableFault → Status → Type 0
+IsRefusalAt file row column fault Memory = Unit {0}
+IsRefusalAt file row column fault status = status ≡ Table file row column fault
 
 -- ---- in turn, with the number of each
 

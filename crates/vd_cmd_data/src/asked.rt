@@ -69,6 +69,7 @@ fn place_of(header: &ByteRecord, name: &[u8]) -> Option<usize>
 }
 
 /// The column that the word with this number asks for.
+#[tactic(auto, using(crate::proofs::Turns::refused_there))]
 fn column_of(
     alloc: Global,
     file: &str,

@@ -1,11 +1,11 @@
 //! The rows of a table, and the words of the columns that are asked for.
 
-ghost use Rattle.std.specs.Prelude.{◌≡◌, ℕ, Err, IfErr, IfOk, map, length};
+ghost use Rattle.std.specs.Prelude.{◌≡◌, IfErr, IfOk, map};
 ghost use Rattle.csv.specs.Reading.{AreRecords, default_config, records, strip_bom};
 ghost use Rattle.csv.specs.declared.parser.State.TheVariants as st;
 ghost use Rattle.csv.specs.Records.{fields_of};
-ghost use Rattle.vd_cmd_plan.specs.Plans.{Checks, IsRefusal};
-ghost use Rattle.vd_cmd_plan.specs.declared.status.Status.TheVariants.{Memory, Table};
+ghost use Rattle.vd_cmd_plan.specs.Plans.{Checks};
+ghost use Rattle.vd_cmd_plan.specs.declared.status.Status.TheVariants.{Memory};
 ghost use Rattle.vd_cmd_data.specs.Tables as tables;
 
 use crate::asked::{Column, columns_of};
@@ -25,7 +25,7 @@ pub(crate) fn refused(
     column: usize,
     fault: TableFault,
 ) -> Status
-    ensures { {T : Type 0} → IsRefusal {T} (Err (Table file.now row column fault)) result }
+    ensures { tables.IsRefusalAt file.now row column fault result }
 {
     match Text::copy_of(alloc, file) {
         Ok(file) => Status::Table(file, row, column, fault),
@@ -72,6 +72,7 @@ pub(crate) fn cell_at(row: &ByteRecord, place: usize) -> &[u8]
 }
 
 /// The word of a column in a row.
+#[tactic(auto, using(crate::proofs::Turns::refused_there))]
 fn word_at(
     alloc: Global,
     file: &str,
@@ -107,6 +108,7 @@ fn words_at(
 }
 
 /// The words of a row, which has as many cells as the header.
+#[tactic(auto, using(crate::proofs::Turns::refused_there))]
 fn row_words(
     alloc: Global,
     file: &str,
@@ -144,6 +146,7 @@ fn rows_words(
 }
 
 /// The words of all rows, where they are no more than a section may have.
+#[tactic(auto, using(crate::proofs::Turns::refused_there))]
 fn counted_words(
     alloc: Global,
     file: &str,
@@ -163,6 +166,7 @@ fn counted_words(
 }
 
 /// The words of records, of which the first is the header.
+#[tactic(auto, using(crate::proofs::Turns::refused_there))]
 fn words_of(
     alloc: Global,
     file: &str,
@@ -189,6 +193,7 @@ fn without_mark(bytes: &[u8]) -> &[u8]
 }
 
 /// The words of the rows of a CSV text, in the columns that are asked for, or its first fault.
+#[tactic(auto, using(crate::proofs::Turns::refused_there))]
 pub(crate) fn table_words(
     alloc: Global,
     file: &str,
