@@ -1,10 +1,16 @@
 -- The words that the help says are read so.
-use Rattle.std.proofs.Common.{ℕ, Option, Some, None, if◌then◌else◌, refl, ap}
+use Rattle.std.proofs.Common.{◌≡◌, Bool, true, false, ◌&&◌, ℕ, Option, Some, None, ◌∷◌, length, if◌then◌else◌, refl, arith, ap}
+use Rattle.std.proofs.lemmas.Bool.{lt-ltb}
 use Rattle.std.specs.Prelude.{is_some}
 use Rattle.vd_base.specs.Limits.{most_search_budget}
 use Rattle.vd_cmd.specs.Commands.{reveals_of}
 use Rattle.vd_cmd.specs.Numbers.{number_within}
 use Rattle.vd_cmd.specs.HelpRead.{HelpIsRead}
+
+both_hold : {A : Type 0} (x : A) (s t : Bool) → s ≡ true → t ≡ true → (if s && t then Some x else None) ≡ Some x
+both_hold x true true a b = refl
+both_hold x true false a b = absurd (cc b)
+both_hold x false t a b = absurd (cc a)
 
 pub help_read : HelpIsRead
 help_read = record {
@@ -25,7 +31,7 @@ help_read = record {
   certify = λ a b. refl;
   depends = λ a b. refl;
   influences = λ a b. refl;
-  column = λ a b c d named. rw named refl;
+  column = λ a b c d named. both_hold _ _ _ named (lt-ltb 0 (length (c ∷ d)) (omega (arith)));
   excuse = λ a b c d e f. refl;
   replay = λ a b c d. refl;
   messages = λ a b c d. refl;
