@@ -5,3 +5,6 @@ mod Records
 mod Answered
 mod Told
 mod Refusing
+mod Few
+mod Marks
+mod EmptyLines

@@ -2,13 +2,26 @@
 use Rattle.std.proofs.Common.{◌≡◌, ℕ, zero, suc, ◌+◌, ◌-◌, ◌<◌, ◌≤◌, Bool, true, false, List, [], ◌∷◌, length, drop, take, Option, Some, None, refl, sym, ap, ◌∙◌, arith, add-one, length-drop, if◌then◌else◌}
 use Rattle.std.proofs.Math.ListN.{drop_of_length-le}
 use Rattle.std.proofs.Math.Seq.{take-length}
+use Rattle.std.specs.List.{prefix_len}
 use Rattle.std.specs.Str.{bytes_eq}
+use Rattle.std.proofs.lemmas.List.Sums.{prefix_len-le-length}
+use Rattle.vd_base.specs.Lexical.{is_digit}
+use Rattle.vd_cmd_data.specs.Cells.{is_zero}
 use Rattle.csv.specs.Records.{field_at}
-use Rattle.vd_cmd_data.specs.Tables.{cell_of, place_from}
+use Rattle.vd_cmd_data.specs.Tables.{cell_of, is_plain, place_from}
 
 -- the value of `&xs[i..]`
 pub behind_is : (xs : List ℕ) (i : ℕ) → take (length xs - i) (drop i xs) ≡ drop i xs
 behind_is xs i = ap (λ n. take n (drop i xs)) (sym (length-drop i xs)) ∙ take-length (drop i xs)
+
+pub digits_fit : (n : ℕ) (xs : List ℕ) → n ≡ prefix_len is_digit xs → n ≤ length xs
+digits_fit n xs is = let fit = prefix_len-le-length is_digit xs in omega (arith, fit, is)
+
+pub zeros_fit : (n : ℕ) (xs : List ℕ) → n ≡ prefix_len is_zero xs → n ≤ length xs
+zeros_fit n xs is = let fit = prefix_len-le-length is_zero xs in omega (arith, fit, is)
+
+pub plain_fit : (n : ℕ) (xs : List ℕ) → n ≡ prefix_len is_plain xs → n ≤ length xs
+plain_fit n xs is = let fit = prefix_len-le-length is_plain xs in omega (arith, fit, is)
 
 first_is : (cells : List (List ℕ)) (place : ℕ) → place < length cells → drop place cells ≡ cell_of cells place ∷ drop (suc place) cells
 unfolding field_at

@@ -15,17 +15,22 @@ module _ (cfg : Config) where
       by : (b : Bool) → ends_at_end s ≡ b → length p.2 ≤ 0
       by true e =
           let got : ◌≡◌ {A = Option Read} (Some (fields ++ (field ∷ []), st.StartRecord, [])) (Some p) = rw e at is in
-          subst (λ (q : Read). length q.2 ≤ 0) (cc got) (omega arith)
+          let same : ◌≡◌ {A = Read} (fields ++ (field ∷ []), st.StartRecord, []) p = cc got in
+          subst (λ (q : Read). length q.2 ≤ 0) same (omega arith)
       by false e = let none : ◌≡◌ {A = Option Read} None (Some p) = rw e at is in absurd (cc none)
-  no_longer (c ∷ rest) s fields field p is = by (is_end (step cfg s c).1) refl
+  no_longer (c ∷ rest) s fields field p is =
+      by (is_end (step cfg s c).1) refl (λ more. no_longer rest (step cfg s c).0 (fields_after (step cfg s c).1 fields field) (field_after (step cfg s c).1 c field) p more)
     where
-      by : (b : Bool) → is_end (step cfg s c).1 ≡ b → length p.2 ≤ length (c ∷ rest)
-      by true e =
+      by : (b : Bool) → is_end (step cfg s c).1 ≡ b
+          → (next_record cfg (step cfg s c).0 (fields_after (step cfg s c).1 fields field) (field_after (step cfg s c).1 c field) rest ≡ Some p → length p.2 ≤ length rest)
+          → length p.2 ≤ length (c ∷ rest)
+      by true e on =
           let got : ◌≡◌ {A = Option Read} (Some (fields_after (step cfg s c).1 fields field, (step cfg s c).0, rest)) (Some p) = rw e at is in
-          subst (λ (q : Read). length q.2 ≤ length (c ∷ rest)) (cc got) (omega arith)
-      by false e =
+          let same : ◌≡◌ {A = Read} (fields_after (step cfg s c).1 fields field, (step cfg s c).0, rest) p = cc got in
+          subst (λ (q : Read). length q.2 ≤ length (c ∷ rest)) same (omega arith)
+      by false e on =
           let more : next_record cfg (step cfg s c).0 (fields_after (step cfg s c).1 fields field) (field_after (step cfg s c).1 c field) rest ≡ Some p = rw e at is in
-          let le = no_longer rest (step cfg s c).0 (fields_after (step cfg s c).1 fields field) (field_after (step cfg s c).1 c field) p more in
+          let le = on more in
           omega (arith, le)
 
   -- where there is a byte, it is shorter
@@ -36,10 +41,15 @@ module _ (cfg : Config) where
       by : (b : Bool) → is_end (step cfg s c).1 ≡ b → length p.2 ≤ length rest
       by true e =
           let got : ◌≡◌ {A = Option Read} (Some (fields_after (step cfg s c).1 fields field, (step cfg s c).0, rest)) (Some p) = rw e at is in
-          subst (λ (q : Read). length q.2 ≤ length rest) (cc got) (omega arith)
+          let same : ◌≡◌ {A = Read} (fields_after (step cfg s c).1 fields field, (step cfg s c).0, rest) p = cc got in
+          subst (λ (q : Read). length q.2 ≤ length rest) same (omega arith)
       by false e =
           let more : next_record cfg (step cfg s c).0 (fields_after (step cfg s c).1 fields field) (field_after (step cfg s c).1 c field) rest ≡ Some p = rw e at is in
           no_longer rest (step cfg s c).0 (fields_after (step cfg s c).1 fields field) (field_after (step cfg s c).1 c field) p more
+
+  nothing_there : next_record cfg st.StartRecord [] [] [] ≡ None
+  unfolding next_record
+  nothing_there = refl
 
   -- the record of a text that is at its end leaves nothing
   at_its_end : (s : State) (p : Read) → next_record cfg s [] [] [] ≡ Some p → next_record cfg p.1 [] [] p.2 ≡ None
@@ -49,7 +59,8 @@ module _ (cfg : Config) where
       by : (b : Bool) → ends_at_end s ≡ b → next_record cfg p.1 [] [] p.2 ≡ None
       by true e =
           let got : ◌≡◌ {A = Option Read} (Some ([] ++ ([] ∷ []), st.StartRecord, [])) (Some p) = rw e at is in
-          subst (λ (q : Read). next_record cfg q.1 [] [] q.2 ≡ None) (cc got) refl
+          let same : ◌≡◌ {A = Read} ([] ++ ([] ∷ []), st.StartRecord, []) p = cc got in
+          subst (λ (q : Read). next_record cfg q.1 [] [] q.2 ≡ None) same nothing_there
       by false e = let none : ◌≡◌ {A = Option Read} None (Some p) = rw e at is in absurd (cc none)
 
   none_next : (n : ℕ) (s : State) (xs : List ℕ) → next_record cfg s [] [] xs ≡ None → records_from cfg n s xs ≡ []
@@ -65,21 +76,22 @@ module _ (cfg : Config) where
 
   pub all_from : (rows : List (List (List ℕ))) (n : ℕ) (s : State) (xs : List ℕ) → AreRecords cfg s xs rows → length xs + 1 ≤ n → records_from cfg n s xs ≡ rows
   unfolding Reached records_from
-  all_from rows zero s xs are few = absurd (omega arith)
+  all_from rows zero s xs are few = absurd (omega (arith, few))
   all_from [] (suc n) s xs are few =
       let none : next_record cfg s [] [] xs ≡ None = rw (are.2.0, are.2.1) are.3 in
       ap (λ (o : Option Read). records_next (records_from cfg n) o) none
   all_from (r ∷ rows) (suc n) s xs are few =
       let p : Read = are.2.0 in
-      ap (λ (o : Option Read). records_next (records_from cfg n) o) are.2.1 ∙ ap (λ l. p.0 ∷ l) (rest xs are few) ∙ ap (λ x. x ∷ rows) (sym are.2.2)
+      ap (λ (o : Option Read). records_next (records_from cfg n) o) are.2.1
+      ∙ ap (λ (l : List (List (List ℕ))). p.0 ∷ l) (behind xs are few (λ less. all_from rows n p.1 p.2 (are.0, are.1, are.2.3, are.3) less))
+      ∙ ap (λ (x : List (List ℕ)). x ∷ rows) (sym are.2.2)
     where
-      rest : (zs : List ℕ) (known : AreRecords cfg s zs (r ∷ rows)) → length zs + 1 ≤ suc n → records_from cfg n known.2.0.1 known.2.0.2 ≡ rows
-      rest [] known enough =
+      behind : (zs : List ℕ) (known : AreRecords cfg s zs (r ∷ rows)) → length zs + 1 ≤ suc n
+          → (length known.2.0.2 + 1 ≤ n → records_from cfg n known.2.0.1 known.2.0.2 ≡ rows) → records_from cfg n known.2.0.1 known.2.0.2 ≡ rows
+      behind [] known enough on =
           let none = at_its_end s known.2.0 known.2.1 in
           none_next n known.2.0.1 known.2.0.2 none ∙ sym (none_reached rows known.2.0.1 known.0 known.2.0.2 known.1 none known.2.3)
-      rest (c ∷ more) known enough =
-          let less = shorter c more s [] [] known.2.0 known.2.1 in
-          all_from rows n known.2.0.1 known.2.0.2 (known.0, known.1, known.2.3, known.3) (omega (arith, less, enough))
+      behind (c ∷ more) known enough on = let less = shorter c more s [] [] known.2.0 known.2.1 in on (omega (arith, less, enough))
 
 pub are_records : (rows : List (List (List ℕ))) (xs : List ℕ) → AreRecords default_config st.StartRecord xs rows → rows ≡ records default_config xs
 are_records rows xs are = sym (all_from default_config rows (length xs + 1) st.StartRecord xs are (omega arith))

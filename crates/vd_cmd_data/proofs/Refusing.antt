@@ -1,5 +1,5 @@
 -- A table is refused as a table, and as nothing else.
-use Rattle.std.proofs.Common.{◌≡◌, ℕ, ◌+◌, Bool, true, false, List, [], ◌∷◌, Option, Some, None, Result, Ok, Err, length, refl, sym, ◌∙◌, nat_le, if◌then◌else◌, ◌==◌, ◌*◌, ◌/◌}
+use Rattle.std.proofs.Common.{◌≡◌, ℕ, ◌+◌, ◌-◌, Bool, true, false, List, [], ◌∷◌, Option, Some, None, Result, Ok, Err, length, refl, sym, ◌∙◌, nat_le, if◌then◌else◌, ◌==◌, ◌*◌, ◌/◌}
 use Rattle.csv.specs.Reading.{default_config, records, strip_bom}
 use Rattle.vd_base.specs.Limits.{most_input_words}
 use Rattle.vd_cmd_plan.specs.declared.status.Status.{Status}
@@ -40,21 +40,21 @@ by_test false r other p q = q
 row : (file : List ℕ) (columns : List Column) (width number : ℕ) (cells : List (List ℕ)) → Refuses (row_words file columns width number cells)
 row file columns width number cells =
     by_test (length cells == width) (each_from (λ _ column. word_at file number cells column) 1 columns) (Err (Table file number 1 Length))
-    (each (λ _ column. word_at file number cells column) (λ n column. word file number (column.place + 1) (cell_word column.factor (cell_of cells column.place))) 1 columns) (λ e. cc e)
+    (each (λ _ column. word_at file number cells column) (λ n column. word file number column.number (cell_word column.factor (cell_of cells (column.number - 1)))) 1 columns) (λ e. cc e)
 
 counted : (file : List ℕ) (columns : List Column) (width : ℕ) (rows : List (List (List ℕ))) → Refuses (counted_words file columns width rows)
 counted file columns width rows =
     by_test (nat_le (length rows * length columns) most_input_words) (each_from (row_words file columns width) 2 rows) (Err (Table file (most_input_words / length columns + 2) 1 Many))
     (each (row_words file columns width) (row file columns width) 2 rows) (λ e. cc e)
 
-then : {A B : Type 0} (r : Result A Status) (next : A → Result B Status) → Refuses r → ((a : A) → Refuses (next a)) → Refuses (then_with r next)
-then (Ok a) next p all = all a
-then (Err status) next p all = p
+go_on : {A B : Type 0} (r : Result A Status) (next : A → Result B Status) → Refuses r → ((a : A) → Refuses (next a)) → Refuses (then_with r next)
+go_on (Ok a) next p all = all a
+go_on (Err status) next p all = p
 
 all_words : (file : List ℕ) (words : List (List ℕ)) (rows : List (List (List ℕ))) → Refuses (words_of file words rows)
 all_words file words [] = λ e. cc e
 all_words file words (header ∷ rows) =
-    then (each_from (column_of file header) 1 words) (λ columns. counted_words file columns (length header) rows)
+    go_on {A = List Column} {B = List (List ℕ)} (each_from (column_of file header) 1 words) (λ columns. counted_words file columns (length header) rows)
     (each (column_of file header) (λ n w. place file n (asked w).1 (place_from (asked w).0 0 header)) 1 words)
     (λ columns. counted file columns (length header) rows)
 

@@ -1,6 +1,7 @@
 -- Lists of results that are made in turn.
-use Rattle.std.proofs.Common.{◌≡◌, ℕ, ◌+◌, ◌<◌, ◌≤◌, suc, List, [], ◌∷◌, ◌++◌, length, drop, get_or, Result, Ok, Err, refl, sym, ap, subst, ◌∙◌, arith, append-nil, append_assoc, add-one, drop-cons}
+use Rattle.std.proofs.Common.{◌≡◌, ℕ, ◌+◌, ◌<◌, ◌≤◌, zero, suc, List, [], ◌∷◌, ◌++◌, length, map, drop, get_or, Result, Ok, Err, refl, sym, ap, subst, ◌∙◌, arith, append-nil, append_assoc, add-one, drop-cons}
 use Rattle.std.proofs.Math.ListN.{drop_of_length-le}
+use Rattle.std.proofs.lemmas.List.{get_or-map, length-map}
 use Rattle.vd_cmd_plan.specs.Plans.{Checks, IsRefusal}
 use Rattle.vd_cmd_plan.specs.declared.status.Status.{Status}
 use Rattle.vd_cmd_plan.specs.declared.status.Status.TheVariants.{ChildFault, Ended, Host, Memory, NoAssignment, ReadFault, Table, Usage, WriteFault}
@@ -50,6 +51,11 @@ none_each : {A B : Type 0} (f : ℕ → A → Result B Status) (n : ℕ) → eac
 unfolding each_from
 none_each f n = refl
 
+same_item : {A : Type 0} (list : List A) (i : ℕ) (d e : A) → i < length list → get_or list i d ≡ get_or list i e
+same_item [] i d e lt = absurd (omega (arith, lt))
+same_item (a ∷ more) zero d e lt = refl
+same_item (a ∷ more) (suc i) d e lt = same_item more i d e (omega (arith, lt))
+
 module _ {A B : Type 0} (f : ℕ → A → Result B Status) (start : ℕ) (list : List A) where
   -- so many are done, and came to these
   abbrev pub Done : ℕ → List B → Type 0
@@ -82,8 +88,35 @@ module _ {A B : Type 0} (f : ℕ → A → Result B Status) (start : ℕ) (list 
         (λ e. next_from i done a lt is so_far ∙ ap (λ r. after done (before_all r (each_from f (i + start + 1) (drop (i + 1) list)))) e) refusal;
   }
 
+  -- the same of the item at a place, whatever stands past the end
+  pub next_done : (i : ℕ) (done : List B) (d : A) (b : B) → i < length list → Done i done → f (i + start) (get_or list i d) ≡ Ok b → Done (i + 1) (done ++ b ∷ [])
+  next_done i done d b lt so_far ok = one_done i done (get_or list i d) b lt (same_item list i d (get_or list i d) lt) so_far ok
+
+  pub next_refused : (i : ℕ) (done : List B) (d : A) (status : Status) → i < length list → Done i done → IsRefusal (f (i + start) (get_or list i d)) status
+      → Checks {T = List B} (each_from f start list) (Err status)
+  next_refused i done d status lt so_far refusal = one_refused i done (get_or list i d) status lt (same_item list i d (get_or list i d) lt) so_far refusal
+
   pub all_done : (i : ℕ) (done : List B) → length list ≤ i → Done i done → Checks (each_from f start list) (Ok done)
   all_done i done le so_far = record {
     ok = so_far ∙ ap (λ l. after done (each_from f (i + start) l)) (drop_of_length-le list le) ∙ ap (after done) (none_each f (i + start)) ∙ ap (λ l. Ok l) (append-nil done);
     err = tt;
   }
+
+-- The same of a list whose items are those of another one, each by a function.
+module _ {A B C : Type 0} (f : ℕ → A → Result B Status) (start : ℕ) (g : C → A) (list : List C) where
+  fits : (i : ℕ) → i < length list → i < length (map g list)
+  fits i lt = let same : length (map g list) ≡ length list = length-map list g in omega (arith, lt, same)
+
+  item_is : (i : ℕ) (c : C) → i < length list → c ≡ get_or list i c → g c ≡ get_or (map g list) i (g c)
+  item_is i c lt is = ap g is ∙ sym (get_or-map g list i c (g c) lt)
+
+  pub one_more : (i : ℕ) (done : List B) (c : C) (b : B) → i < length list → c ≡ get_or list i c → Done f start (map g list) i done → f (i + start) (g c) ≡ Ok b
+      → Done f start (map g list) (i + 1) (done ++ b ∷ [])
+  one_more i done c b lt is so_far ok = one_done f start (map g list) i done (g c) b (fits i lt) (item_is i c lt is) so_far ok
+
+  pub one_stops : (i : ℕ) (done : List B) (c : C) (status : Status) → i < length list → c ≡ get_or list i c → Done f start (map g list) i done → IsRefusal (f (i + start) (g c)) status
+      → Checks {T = List B} (each_from f start (map g list)) (Err status)
+  one_stops i done c status lt is so_far refusal = one_refused f start (map g list) i done (g c) status (fits i lt) (item_is i c lt is) so_far refusal
+
+  pub all_are : (i : ℕ) (done : List B) → length list ≤ i → Done f start (map g list) i done → Checks (each_from f start (map g list)) (Ok done)
+  all_are i done le so_far = all_done f start (map g list) i done (let same : length (map g list) ≡ length list = length-map list g in omega (arith, le, same)) so_far

@@ -1,6 +1,6 @@
 -- The word that a cell of a table comes to, times a factor.
 use Rattle.std.specs.Prelude.{ℕ, ◌*◌, ◌+◌, ◌/◌, ◌%◌, ◌^◌, Bool, ◌||◌, ◌&&◌, not, List, [], ◌∷◌, Option, Some, None, Result, Ok, Err, length, take, drop, nat_eq, nat_lt, if◌then◌else◌}
-use Rattle.std.specs.List.{list_all, prefix_len}
+use Rattle.std.specs.List.{prefix_len}
 use Rattle.vd_base.specs.Lexical.{is_digit, number_of}
 use Rattle.vd_cmd_plan.specs.declared.status.TableFault.{TableFault}
 use Rattle.vd_cmd_plan.specs.declared.status.TableFault.TheVariants.{Empty, Fraction, Large, NoNumber, Sign}
@@ -28,8 +28,9 @@ abbrev pub scaled_by : (factor : ℕ) → (whole decimals scale : Option ℕ) �
 scaled_by factor (Some whole) (Some decimals) (Some scale) = scaled factor (whole * scale + decimals) scale
 scaled_by factor whole decimals scale = Err Large
 
+-- some digits, and nothing else
 abbrev pub are_digits : List ℕ → Bool
-are_digits bytes = nat_lt 0 (length bytes) && list_all is_digit bytes
+are_digits bytes = nat_lt 0 (prefix_len is_digit bytes) && nat_eq (prefix_len is_digit bytes) (length bytes)
 
 -- digits, and what stands behind them: nothing, or a point and digits
 abbrev pub number_word : (factor : ℕ) → (whole behind : List ℕ) → Result ℕ TableFault

@@ -6,4 +6,4 @@ abbrev pub row_line : List ℕ → List ℕ
 row_line words = flat_map number_field words ++ 10 ∷ []
 
 abbrev pub section_text : (host : List ℕ) → (rows : List (List ℕ)) → List ℕ
-section_text host rows = host ++ (codes ":\n" ++ flat_map row_line rows)
+section_text host rows = host ++ codes ":\n" ++ flat_map row_line rows

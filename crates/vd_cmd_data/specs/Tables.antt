@@ -1,5 +1,5 @@
 -- The words of a table: of each row below the header the cells of the columns that are asked for.
-use Rattle.std.specs.Prelude.{◌≡◌, ℕ, ◌+◌, ◌*◌, ◌/◌, ◌==◌, Bool, ◌||◌, ◌&&◌, not, List, [], ◌∷◌, Option, Some, None, Result, Ok, Err, length, take, drop, nat_eq, nat_le, unwrap_or, if◌then◌else◌}
+use Rattle.std.specs.Prelude.{◌≡◌, ℕ, ◌+◌, ◌-◌, ◌*◌, ◌/◌, ◌==◌, Bool, ◌||◌, ◌&&◌, not, List, [], ◌∷◌, Option, Some, None, Result, Ok, Err, length, take, drop, nat_eq, nat_le, unwrap_or, if◌then◌else◌}
 use Rattle.std.specs.List.{fold, prefix_len}
 use Rattle.std.specs.Str.{bytes_eq}
 use Rattle.csv.specs.Reading.{default_config, records, strip_bom}
@@ -61,7 +61,7 @@ place_from name place [] = None
 place_from name place (cell ∷ more) = if bytes_eq name cell then Some place else place_from name (place + 1) more
 
 abbrev pub column_at : (file : List ℕ) → (number factor : ℕ) → Option ℕ → Result Column Status
-column_at file number factor (Some place) = Ok (record { place = place; factor = factor })
+column_at file number factor (Some place) = Ok (record { number = place + 1; factor = factor })
 column_at file number factor None = Err (Table file 1 number NoColumn)
 
 -- the first cell of the header that has the name
@@ -78,7 +78,7 @@ abbrev pub cell_of : (cells : List (List ℕ)) → (place : ℕ) → List ℕ
 cell_of cells place = unwrap_or (field_at cells place) []
 
 abbrev pub word_at : (file : List ℕ) → (row : ℕ) → (cells : List (List ℕ)) → Column → Result ℕ Status
-word_at file row cells column = as_word file row (column.place + 1) (cell_word column.factor (cell_of cells column.place))
+word_at file row cells column = as_word file row column.number (cell_word column.factor (cell_of cells (column.number - 1)))
 
 -- the words of a row, which has as many cells as the header
 abbrev pub row_words : (file : List ℕ) → (columns : List Column) → (width number : ℕ) → (cells : List (List ℕ)) → Result (List ℕ) Status

@@ -1,6 +1,6 @@
 //! The columns that are asked for.
 
-ghost use Rattle.std.specs.Prelude.{◌≡◌};
+ghost use Rattle.std.specs.Prelude.{◌≡◌, ◌<◌, ◌≤◌, ◌-◌, ◌^◌, IfSome, length};
 ghost use Rattle.std.specs.List.{prefix_len};
 ghost use Rattle.csv.specs.Records.{fields_of};
 ghost use Rattle.vd_cmd_plan.specs.Plans.{Checks};
@@ -16,15 +16,17 @@ use vd_cmd_plan::{Status, TableFault};
 /// Which cell of a row is taken, and the factor of its word.
 #[derive(Clone, Copy, Debug)]
 pub(crate) struct Column {
-    /// The place of the cell, from 0 on.
-    pub place: usize,
+    /// The number of the cell in its row, from 1 on.
+    pub number: usize,
     /// From 1 on.
     pub factor: u32,
 }
 
 /// How many bytes stand before the first `*`.
+#[tactic(auto, using(crate::proofs::Places::plain_fit))]
 fn plain_len(word: &[u8]) -> usize
-    ensures { result ≡ prefix_len is_plain word.now }
+    ensures is { result ≡ prefix_len is_plain word.now }
+    ensures fits { result ≤ length word.now }
 {
     word.iter().take_while(|byte| **byte != b'*').count()
 }
@@ -58,7 +60,8 @@ fn asked(word: &[u8]) -> (&[u8], u32)
 /// The place of the first cell with this name.
 #[tactic(auto, using(crate::proofs::Places::next_place, crate::proofs::Places::found_place, crate::proofs::Places::no_place))]
 fn place_of(header: &ByteRecord, name: &[u8]) -> Option<usize>
-    ensures { result ≡ place_from name.now 0 (fields_of header.now) }
+    ensures place { result ≡ place_from name.now 0 (fields_of header.now) }
+    ensures fits { IfSome result (λ place. place < 2 ^ 64 - 1) }
 {
     for place in 0..header.len() {
         if name == cell_at(header, place) {
@@ -81,7 +84,10 @@ fn column_of(
 {
     let (name, factor) = asked(word.as_bytes());
     match place_of(header, name) {
-        Some(place) => Ok(Column { place, factor }),
+        Some(place) => Ok(Column {
+            number: place + 1,
+            factor,
+        }),
         None => Err(refused(alloc, file, 1, number, TableFault::NoColumn)),
     }
 }

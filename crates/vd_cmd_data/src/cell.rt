@@ -1,15 +1,18 @@
 //! The word that a cell comes to.
 
-ghost use Rattle.std.specs.Prelude.{◌≡◌, ◌≤◌, IfSome};
+ghost use Rattle.std.specs.Prelude.{◌≡◌, ◌≤◌, IfSome, length};
 ghost use Rattle.std.specs.List.{prefix_len};
+ghost use Rattle.vd_base.specs.Lexical.{is_digit};
 ghost use Rattle.vd_cmd_data.specs.Cells as cells;
 
-use vd_base::{digits_len, is_digit, number};
+use vd_base::{digits_len, number};
 use vd_cmd_plan::TableFault;
 
 /// How many zeros digits begin with.
+#[tactic(auto, using(crate::proofs::Places::zeros_fit))]
 fn zeros_len(digits: &[u8]) -> usize
-    ensures { result ≡ prefix_len cells.is_zero digits.now }
+    ensures is { result ≡ prefix_len cells.is_zero digits.now }
+    ensures fits { result ≤ length digits.now }
 {
     digits.iter().take_while(|byte| **byte == b'0').count()
 }
@@ -85,11 +88,21 @@ fn scaled_by(
     }
 }
 
-/// Whether all bytes are digits, and there are some.
+/// Whether there are some digits, and nothing else.
 fn are_digits(bytes: &[u8]) -> bool
     ensures { result ≡ cells.are_digits bytes.now }
 {
-    !bytes.is_empty() && bytes.iter().all(|byte| is_digit(*byte))
+    let digits = digits_len(bytes);
+    digits > 0 && digits == bytes.len()
+}
+
+/// How many digits bytes begin with.
+#[tactic(auto, using(crate::proofs::Places::digits_fit))]
+fn whole_len(bytes: &[u8]) -> usize
+    ensures is { result ≡ prefix_len is_digit bytes.now }
+    ensures fits { result ≤ length bytes.now }
+{
+    digits_len(bytes)
 }
 
 /// The word of digits, and of what stands behind them.
@@ -114,7 +127,7 @@ fn number_word(factor: u32, whole: &[u8], behind: &[u8]) -> Result<u32, TableFau
 fn unsigned_word(factor: u32, cell: &[u8]) -> Result<u32, TableFault>
     ensures { result ≡ cells.unsigned_word factor cell.now }
 {
-    let whole = digits_len(cell);
+    let whole = whole_len(cell);
     if whole == 0 {
         return Err(TableFault::NoNumber);
     }

@@ -62,6 +62,7 @@ fn after_byte(scan: LineScan, byte: u8) -> LineScan
 }
 
 /// The first line that is empty and has others behind it.
+#[tactic(auto, using(crate::proofs::EmptyLines::none_scanned, crate::proofs::EmptyLines::one_scanned, crate::proofs::EmptyLines::all_scanned))]
 pub(crate) fn empty_line(text: &[u8]) -> Option<usize>
     ensures { result ≡ tables.empty_line text.now }
 {

@@ -36,7 +36,7 @@ pub(crate) fn section_text(
 {
     let mut text = Bytes::from_slice(alloc, host.as_bytes())?;
     text.extend_from_slice(b":\n")?;
-    for row in rows.iter() {
+    for row in rows.as_slice() {
         push_row(&mut text, row.as_slice())?;
     }
     Ok(text)

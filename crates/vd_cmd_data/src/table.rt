@@ -1,11 +1,12 @@
 //! The rows of a table, and the words of the columns that are asked for.
 
-ghost use Rattle.std.specs.Prelude.{◌≡◌, IfErr, IfOk, map};
-ghost use Rattle.csv.specs.Reading.{AreRecords, default_config, records, strip_bom};
+ghost use Rattle.std.specs.Prelude.{◌≡◌, ◌<◌, ◌+◌, ◌*◌, ◌/◌, IfErr, IfOk, map, nat_le};
+ghost use Rattle.csv.specs.Reading.{AreRecords, default_config, is_bom, records, strip_bom};
 ghost use Rattle.csv.specs.declared.parser.State.TheVariants as st;
 ghost use Rattle.csv.specs.Records.{fields_of};
 ghost use Rattle.vd_cmd_plan.specs.Plans.{Checks};
 ghost use Rattle.vd_cmd_plan.specs.declared.status.Status.TheVariants.{Memory};
+ghost use Rattle.vd_base.specs.Limits.{most_input_words};
 ghost use Rattle.vd_cmd_data.specs.Tables as tables;
 
 use crate::asked::{Column, columns_of};
@@ -82,14 +83,15 @@ fn word_at(
 ) -> Result<u32, Status>
     ensures { Checks (tables.word_at file.now number (fields_of row.now) column) result }
 {
-    match cell_word(column.factor, cell_at(row, column.place)) {
+    let cell = cell_at(row, column.number.saturating_sub(1));
+    match cell_word(column.factor, cell) {
         Ok(word) => Ok(word),
-        Err(fault) => Err(refused(alloc, file, number, column.place + 1, fault)),
+        Err(fault) => Err(refused(alloc, file, number, column.number, fault)),
     }
 }
 
 /// The words of the columns in a row.
-#[tactic(auto, using(crate::proofs::Turns::none_done, crate::proofs::Turns::one_done, crate::proofs::Turns::one_refused, crate::proofs::Turns::all_done))]
+#[tactic(auto, using(crate::proofs::Turns::none_done, crate::proofs::Turns::next_done, crate::proofs::Turns::all_done))]
 fn words_at(
     alloc: Global,
     file: &str,
@@ -127,7 +129,7 @@ fn row_words(
 }
 
 /// The words of all rows.
-#[tactic(auto, using(crate::proofs::Turns::none_done, crate::proofs::Turns::one_done, crate::proofs::Turns::one_refused, crate::proofs::Turns::all_done))]
+#[tactic(auto, using(crate::proofs::Turns::none_done, crate::proofs::Turns::one_more, crate::proofs::Turns::one_stops, crate::proofs::Turns::all_are))]
 fn rows_words(
     alloc: Global,
     file: &str,
@@ -145,8 +147,27 @@ fn rows_words(
     Ok(list)
 }
 
+/// Whether so many rows of so many words are no more than a section may have.
+#[tactic(auto, using(crate::proofs::Few::none_fit, crate::proofs::Few::some_fit))]
+fn are_few(rows: usize, columns: usize) -> bool
+    ensures { result ≡ nat_le (rows * columns) most_input_words }
+{
+    if columns == 0 {
+        return true;
+    }
+    rows <= INPUT_WORDS as usize / columns
+}
+
+/// The number of the first row with which there are more words than a section may have, of which the header is the first row.
+fn first_above(columns: usize) -> usize
+    requires { 0 < columns }
+    ensures { result ≡ most_input_words / columns + 2 }
+{
+    INPUT_WORDS as usize / columns + 2
+}
+
 /// The words of all rows, where they are no more than a section may have.
-#[tactic(auto, using(crate::proofs::Turns::refused_there))]
+#[tactic(auto, using(crate::proofs::Turns::refused_there, crate::proofs::Few::some_columns))]
 fn counted_words(
     alloc: Global,
     file: &str,
@@ -156,11 +177,10 @@ fn counted_words(
 ) -> Result<Items<Words>, Status>
     ensures { Checks (tables.counted_words file.now columns.now width (map fields_of rows.now)) result }
 {
-    let most = INPUT_WORDS as usize;
-    if columns.is_empty() || rows.len() <= most / columns.len() {
+    if are_few(rows.len(), columns.len()) {
         rows_words(alloc, file, columns, width, rows)
     } else {
-        let row = most / columns.len() + 2;
+        let row = first_above(columns.len());
         Err(refused(alloc, file, row, 1, TableFault::Many))
     }
 }
@@ -182,12 +202,26 @@ fn words_of(
     counted_words(alloc, file, columns.as_slice(), header.len(), rows)
 }
 
+/// Whether three bytes are a byte order mark.
+fn is_mark(first: u8, second: u8, third: u8) -> bool
+    ensures { result ≡ is_bom first second third }
+{
+    first == 0xEF && second == 0xBB && third == 0xBF
+}
+
 /// A text without the byte order mark at its start.
+#[tactic(auto, using(crate::proofs::Marks::short))]
 fn without_mark(bytes: &[u8]) -> &[u8]
     ensures { result.now ≡ strip_bom bytes.now }
 {
     match bytes {
-        [0xEF, 0xBB, 0xBF, text @ ..] => text,
+        [first, second, third, text @ ..] => {
+            if is_mark(*first, *second, *third) {
+                text
+            } else {
+                bytes
+            }
+        }
         _ => bytes,
     }
 }

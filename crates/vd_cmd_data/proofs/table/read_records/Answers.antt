@@ -10,7 +10,7 @@ use Rattle.vd_cmd_data.proofs.table.read_records.Goals as goal
 pub loop-row-init : goal.loop-row-init
 unfolding Reached
 loop-row-init c =
-    let fr = c.from_reader-rdr.ensures in
+    let fr = c.from_reader-reader.ensures in
     let e = c.flexible.ensures ∙ ap (λ b. with_flexible b true) c.has_headers.ensures in
     let start = c.into_iter-row-iterator.ensures.into_iter_gives ∙ refl in
     let rdr = c.into_byte_records-row-items.ensures.rdr in
