@@ -200,10 +200,14 @@ unfoldable pub limited_form_of : List (List ℕ) → Option Command
 limited_form_of [] = None
 limited_form_of (seconds ∷ words) = limited_by (number_within 1 most_wait seconds) words
 
--- the command `column` with these words behind it: a host, a file, and one name of a column or more
-abbrev pub column_form_of : List (List ℕ) → Option Command
-column_form_of (host ∷ file ∷ columns) =
+-- the command `column` of a host, which is a name, a file, and one name of a column or more
+abbrev pub column_with : (host file : List ℕ) → (columns : List (List ℕ)) → Option Command
+column_with host file columns =
     if is_name host && nat_lt 0 (length columns) then Some (OnFiles (Column (record { host = host; file = file; columns = columns }))) else None
+
+-- the command `column` with these words behind it
+abbrev pub column_form_of : List (List ℕ) → Option Command
+column_form_of (host ∷ file ∷ columns) = column_with host file columns
 column_form_of words = None
 
 -- the command of words that are not those of `excuse`, and run no host by themselves

@@ -1,7 +1,7 @@
 //! The command that the words of a command line are.
 
 ghost use Rattle.std.specs.Prelude.{◌≡◌, [], ◌∷◌, None, Some, IfSome, MatchOption};
-ghost use Rattle.vd_cmd.specs.Commands.{Reads, AreWithin, IsWait, column_form_of, compile_with, counts_in, deal_in, excuse_form_of, fixed_form_of, form_of, host_form_of, key_file, limited_form_of, listed_form_of, needs_with, other_form_of, replay_with, reveals_with, unhosted_form_of};
+ghost use Rattle.vd_cmd.specs.Commands.{Reads, AreWithin, IsWait, column_form_of, column_with, compile_with, counts_in, deal_in, excuse_form_of, fixed_form_of, form_of, host_form_of, key_file, limited_form_of, listed_form_of, needs_with, other_form_of, replay_with, reveals_with, unhosted_form_of};
 ghost use Rattle.vd_cmd.specs.declared.command.KeySource.TheVariants.{InFile};
 
 use crate::command::{Command, CommandFault, FilesCommand, HostWords};
@@ -390,18 +390,28 @@ fn read_fixed(alloc: Global, words: &[Text]) -> Result<Command, CommandFault>
     }
 }
 
-/// The command `column` with these words behind it: a host, a file, and one name of a column or more.
+/// The command `column` of a host, which is a name, a file, and one name of a column or more.
+fn column_with(
+    alloc: Global,
+    host: &Text,
+    file: &Text,
+    columns: &[Text],
+) -> Result<Command, CommandFault>
+    ensures { Reads (column_with host.now file.now columns.now) result }
+{
+    if is_name(host.as_str().as_bytes()) && !columns.is_empty() {
+        column_of(alloc, host, file, columns)
+    } else {
+        Err(CommandFault::Usage)
+    }
+}
+
+/// The command `column` with these words behind it.
 fn read_column(alloc: Global, words: &[Text]) -> Result<Command, CommandFault>
     ensures { Reads (column_form_of words.now) result }
 {
     match words {
-        [host, file, columns @ ..] => {
-            if is_name(host.as_str().as_bytes()) && !columns.is_empty() {
-                column_of(alloc, host, file, columns)
-            } else {
-                Err(CommandFault::Usage)
-            }
-        }
+        [host, file, columns @ ..] => column_with(alloc, host, file, columns),
         _ => Err(CommandFault::Usage),
     }
 }
