@@ -5,6 +5,7 @@ use Rattle.vd_base.specs.Limits.{most_host_file_bytes}
 use Rattle.vd_cmd.specs.declared.command.Command.{Command}
 use Rattle.vd_cmd.specs.declared.command.Command.TheVariants.{OnFiles, KeyDeal, Early, Host, Check, Run}
 use Rattle.vd_cmd.specs.declared.command.CheckWords.{CheckWords}
+use Rattle.vd_cmd.specs.declared.command.ColumnWords.{ColumnWords}
 use Rattle.vd_cmd.specs.declared.command.EarlyWords.{EarlyWords}
 use Rattle.vd_cmd.specs.declared.command.ExcuseWords.{ExcuseWords}
 use Rattle.vd_cmd.specs.declared.command.HostWords.{HostWords}
@@ -15,7 +16,7 @@ use Rattle.vd_cmd.specs.declared.command.ReplayWords.{ReplayWords}
 use Rattle.vd_cmd.specs.declared.command.RevealsWords.{RevealsWords}
 use Rattle.vd_cmd.specs.declared.command.RunWords.{RunWords}
 use Rattle.vd_cmd.specs.declared.command.FilesCommand.TheVariants.{Clear, Labels, Choose, Draw, Reveals, Certify, Compile, Needs, Hasten, Replay}
-use Rattle.vd_cmd.specs.declared.command.FilesCommand.TheVariants.{Excuse, Depends, Influences}
+use Rattle.vd_cmd.specs.declared.command.FilesCommand.TheVariants.{Excuse, Depends, Influences, Column}
 use Rattle.vd_cmd_plan.specs.Numbered.{file_name}
 use Rattle.vd_edge.specs.declared.kept.Wanted.{Wanted}
 use Rattle.vd_shell.specs.Ahead.{file, wanted_of}
@@ -48,6 +49,7 @@ pub record NamedFilesAreAhead : Type 0 where
   pub hasten : (program out : List ℕ) → IsAhead (OnFiles (Hasten program out)) program most_host_file_bytes
   pub depends : (source host : List ℕ) → IsAhead (OnFiles (Depends source host)) source most_source_bytes
   pub influences : (source host : List ℕ) → IsAhead (OnFiles (Influences source host)) source most_source_bytes
+  pub column : (words : ColumnWords) → IsAhead (OnFiles (Column words)) words.file most_inputs_bytes
   pub key : (words : KeyDealWords) (name : List ℕ) → words.key ≡ InFile name → IsAhead (KeyDeal words) name 32
   pub replay : (words : ReplayWords) → IsAhead (OnFiles (Replay words)) words.source most_source_bytes
       × IsAhead (OnFiles (Replay words)) words.inputs most_inputs_bytes
