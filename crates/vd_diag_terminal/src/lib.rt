@@ -18,4 +18,5 @@ pub use diag_choice::{
 };
 pub use diag_flow::flow_remark;
 pub use laws::{faults_are_shown_in_their_files, no_secret_is_told};
+pub use remarks::remark_on;
 pub use telling::{Destination, say_more};

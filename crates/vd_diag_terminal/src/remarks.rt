@@ -96,7 +96,7 @@ fn remark_on_flow(alloc: Global, fault: &FlowFault) -> Result<Option<Remark>, Te
 }
 
 /// The remark on a status that speaks of the file with these bytes, if there is one.
-pub(crate) fn remark_on(
+pub fn remark_on(
     alloc: Global,
     bytes: &[u8],
     status: &Status,
