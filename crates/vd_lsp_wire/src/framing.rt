@@ -33,6 +33,7 @@ pub fn frame(alloc: Global, body: &[u8]) -> Result<Vec<u8>, AllocError>
 }
 
 /// What a stream begins with.
+#[derive(Clone, Copy)]
 pub enum Framed<'a> {
     /// No frame so far: more is to come.
     Short,
