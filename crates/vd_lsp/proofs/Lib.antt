@@ -1,0 +1,4 @@
+mod Outcomes
+mod ByStatus
+mod Rounds
+mod Pieces
