@@ -136,7 +136,7 @@ fn answer_body(
 
 /// Why the messages of a stream are not answered that begins so.
 fn stop_at(framed: Framed) -> Stop
-    ensures { streams.IsStop framed result }
+    ensures { streams.IsStop framed.entry result }
 {
     match framed {
         Framed::Bad => Stop::Bad,
