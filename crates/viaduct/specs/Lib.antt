@@ -1,2 +1,3 @@
 pub mod Program
 pub mod Telling
+pub mod Server

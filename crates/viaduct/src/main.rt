@@ -4,11 +4,13 @@
 
 mod caller;
 mod program;
+mod server;
 
 ghost use Rattle.std.specs.Prelude.{⊤};
 
 use caller::{Caller, Known, tell_ending};
 use program::{Ending, Ran, destination_of, end, exit_code, reason_of, run_over};
+use server::{Streams, is_server, serve_over};
 use std::alloc::{AllocError, Global};
 use std::env::{Env, VarError};
 use std::io::{IsTerminal, Stderr, Stdout};
@@ -276,9 +278,14 @@ fn run(
 
 fn main(rt: HostRuntime) -> ExitCode {
     let alloc = rt.alloc();
+    let streams = Streams {
+        input: rt.stdin(),
+        output: rt.stdout(),
+    };
     let out = RealSink::new(rt.stdout());
     let mut err = RealSink::new(rt.stderr());
     match begin(rt) {
+        Ok(beginning) if is_server(&beginning.caller.words) => serve_over(alloc, streams, &mut err),
         Ok(beginning) => run(alloc, beginning, out, err),
         Err(_) => end(alloc, &mut err, &Status::Memory),
     }
