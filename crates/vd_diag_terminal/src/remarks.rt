@@ -96,11 +96,7 @@ fn remark_on_flow(alloc: Global, fault: &FlowFault) -> Result<Option<Remark>, Te
 }
 
 /// The remark on a status that speaks of the file with these bytes, if there is one.
-pub fn remark_on(
-    alloc: Global,
-    bytes: &[u8],
-    status: &Status,
-) -> Result<Option<Remark>, TellFault>
+pub fn remark_on(alloc: Global, bytes: &[u8], status: &Status) -> Result<Option<Remark>, TellFault>
     ensures { IfOk result (remarks.IsRemarkOn bytes.now status.now) }
 {
     match status {
