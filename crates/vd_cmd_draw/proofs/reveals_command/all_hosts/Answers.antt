@@ -7,6 +7,6 @@ use Rattle.vd_cmd_draw.proofs.reveals_command.all_hosts.Goals as goal
 pub loop-number-preserved : goal.loop-number-preserved
 loop-number-preserved c =
     let number = c.loop-number.number in
-    c.in_ok-push.ensures {u = tt}
+    (c.in_ok-push.ensures {u = tt}).ok
     ∙ ap (λ (l : List HostId). l ++ host number ∷ []) c.loop-number.invariant
     ∙ sym (map-range_with_len_more host 0 number number (omega arith))

@@ -9,4 +9,4 @@ returns-in_err-host c =
     rw (p.1, p.2) (one_refused (as_host c.args.names.now c.args.name.now) c.in_err-host.field-0.0 (c.in_err-host.ensures {u = tt}))
 
 pub returns : goal.returns
-returns c = one_asked (as_host c.args.names.now c.args.name.now) c.in_ok-host.host _ (c.in_ok-host.ensures {u = tt}) (c.in_ok-push.ensures {u = tt})
+returns c = one_asked (as_host c.args.names.now c.args.name.now) c.in_ok-host.host _ (c.in_ok-host.ensures {u = tt}) (c.in_ok-push.ensures {u = tt}).ok
