@@ -9,7 +9,7 @@ use Rattle.vd_cmd_plan.specs.declared.answer.Answer.{Answer}
 use Rattle.vd_cmd_plan.specs.declared.status.Status.{Status}
 use Rattle.vd_cmd_plan.proofs.Front.{answers, check_step, load_step}
 use Rattle.vd_cmd_data.specs.Columns.{bytes_plan, column_plan, rows_plan}
-use Rattle.vd_cmd_data.specs.Sections.{section_text}
+use Rattle.vd_report.specs.SectionLines.{section_text}
 use Rattle.vd_cmd_data.specs.Tables.{table_words}
 
 pub refused_bytes : (words : ColumnWords) (bytes : List ℕ) (files : FilesView) (status : Status) → Checks {T = List (List ℕ)} (table_words words.file words.columns bytes) (Err status)

@@ -8,3 +8,4 @@ mod Refusing
 mod Few
 mod Marks
 mod EmptyLines
+mod WordsGiven

@@ -1,5 +1,6 @@
 -- The command `column`.
-use Rattle.std.specs.Prelude.{◌≡◌, ℕ, true, List, [], Ok, Result}
+use Rattle.std.specs.Prelude.{◌≡◌, ℕ, IsTrue, true, List, [], Some, Ok, Result, length, replicate, slice_set}
+use Rattle.vd_base.specs.Lexical.{is_name}
 use Rattle.vd_base.specs.Limits.{most_inputs_bytes}
 use Rattle.vd_outside.specs.Files.{FilesView, Contents}
 use Rattle.vd_cmd.specs.declared.command.ColumnWords.{ColumnWords}
@@ -8,7 +9,9 @@ use Rattle.vd_cmd_plan.specs.Plans.{Plan, Executes, answer_then, check_then, end
 use Rattle.vd_cmd_plan.specs.declared.answer.Answer.{Answer}
 use Rattle.vd_cmd_plan.specs.declared.status.Status.{Status}
 use Rattle.vd_cmd_plan.specs.declared.status.Status.TheVariants.{Ended}
-use Rattle.vd_cmd_data.specs.Sections.{section_text}
+use Rattle.vd_report.specs.Hosts.{host_of}
+use Rattle.vd_report.specs.InputsText.{GivesInputs}
+use Rattle.vd_report.specs.SectionLines.{section_text, words_in}
 use Rattle.vd_cmd_data.specs.Tables.{table_words}
 
 -- the section is printed
@@ -27,11 +30,18 @@ ExecutesBytes words bytes result = (files : FilesView) → Executes true (bytes_
 abbrev pub ExecutesColumn : ColumnWords → FilesView → FilesView → Result Answer Status → Type 0
 ExecutesColumn words before now result = Executes true (column_plan words) before now result
 
--- The file is a table that gives these rows of words, and the section of the host with them was printed.
+-- Whatever hosts a program has, if one of them has this name, what was printed is an inputs file that gives it all words of these
+-- rows, in order, and the others none.
+abbrev pub IsReadBack : (host : List ℕ) → (rows : List (List ℕ)) → (printed : List ℕ) → Type 0
+IsReadBack host rows printed = (hosts : List (List ℕ)) (number : ℕ) → host_of hosts host ≡ Some number
+    → GivesInputs hosts printed (slice_set (replicate (length hosts) []) number (words_in rows))
+
+-- The file is a table that gives these rows of words, and the section of the host with them was printed, which is read back as them.
 pub record TellsColumn (words : ColumnWords) (contents : Contents) (printed : List ℕ) : Type 0 where
   pub rows : List (List ℕ)
   pub held : IsHeld words.file most_inputs_bytes contents (λ bytes. table_words words.file words.columns bytes ≡ Ok rows)
   pub section : printed ≡ section_text words.host rows
+  pub read_back : IsTrue (is_name words.host) → IsReadBack words.host rows printed
 
 abbrev pub ColumnsTell : Type 0
 ColumnsTell = (words : ColumnWords) (contents : Contents)

@@ -1,4 +1,3 @@
 pub mod Cells
 pub mod Tables
-pub mod Sections
 pub mod Columns

@@ -1,7 +1,7 @@
 //! The command `column`.
 
 ghost use Rattle.vd_cmd_data.specs.Columns.{ColumnsTell, ExecutesBytes, ExecutesColumn};
-ghost use Rattle.vd_cmd_data.specs.Sections.{section_text};
+ghost use Rattle.vd_report.specs.SectionLines.{section_text};
 ghost use Rattle.vd_cmd_plan.specs.Plans.{Computes, ended};
 ghost use Rattle.std.specs.Prelude.{[]};
 

@@ -1,7 +1,7 @@
 //! A section of an inputs file.
 
 ghost use Rattle.std.specs.Prelude.{◌≡◌, ◌++◌, IfOk, OnOk};
-ghost use Rattle.vd_cmd_data.specs.Sections.{row_line, section_text};
+ghost use Rattle.vd_report.specs.SectionLines.{row_line, section_text};
 ghost use Rattle.vd_report.specs.Lines.{number_field};
 
 use itoa::Buffer;

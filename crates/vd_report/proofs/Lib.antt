@@ -15,3 +15,5 @@ mod LineWords
 mod LinksRead
 mod StatesTold
 mod LabelsRead
+mod WordTokens
+mod SectionsRead

@@ -13,3 +13,4 @@ pub mod LineWords
 pub mod LinksRead
 pub mod StatesTold
 pub mod LabelsRead
+pub mod SectionLines

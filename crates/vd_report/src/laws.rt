@@ -2,6 +2,7 @@
 
 ghost use Rattle.vd_report.specs.LabelsRead.{LabelsAreWritten};
 ghost use Rattle.vd_report.specs.LinksRead.{LinksAreRead};
+ghost use Rattle.vd_report.specs.SectionLines.{SectionsAreRead};
 ghost use Rattle.vd_report.specs.StatesTold.{StatesAreTold};
 
 /// The line of a link, read as words, names the host that sends before its `>` and the one that receives behind it. Then stand
@@ -19,4 +20,10 @@ pub fn states_are_told()
 /// `|` for one of two.
 pub fn labels_are_written()
     ensures { LabelsAreWritten }
+{}
+
+/// A printed section is read as an inputs file: whatever hosts there are, it gives the host of its name all its words in order, and the
+/// others none.
+pub fn sections_are_read()
+    ensures { SectionsAreRead }
 {}
