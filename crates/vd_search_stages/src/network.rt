@@ -12,7 +12,7 @@ ghost use Rattle.vd_space.specs.WellFormed.{IsWellFormed};
 
 use crate::arc_tables::ArcTables;
 use crate::selecting::{Selection, refuted};
-use crate::stages::{network_budget, try_some};
+use crate::stages::{floor_by, network_budget, try_above, try_some};
 use crate::trying::Tried;
 use crate::walking::select_by_walk;
 use std::alloc::{AllocError, Global};
@@ -207,7 +207,8 @@ fn try_ascent<A: Ascents>(
 }
 
 /// The choice, or that there is none, by these tables of better shifts of uses, by the shifts of arcs that an ascent gives, and
-/// where these leave too many ties by a walk; else what each valid list costs at least, 0 where there are none.
+/// where these leave too many ties by a walk; else what each valid list costs at least. Where there are no shifts of arcs, the
+/// better ones of uses say that.
 pub(crate) fn try_arcs<A: Ascents>(
     alloc: Global,
     ascents: &A,
@@ -227,9 +228,9 @@ pub(crate) fn try_arcs<A: Ascents>(
     let without = network_tables(alloc, problem, Items::new(alloc))?;
     match ascents.over_arcs(alloc, problem, &without)? {
         Some(found) => try_ascent(alloc, ascents, problem, better, &without, found, budget),
-        None => match try_some(alloc, problem, better, 0, budget)? {
-            Some(selection) => Ok(Tried::Selected(selection)),
-            None => Ok(Tried::Unended(0)),
-        },
+        None => {
+            let floor = floor_by(alloc, problem, better)?;
+            try_above(alloc, problem, better, floor, budget)
+        }
     }
 }

@@ -152,7 +152,11 @@ fn floor_of(alloc: Global, problem: &Problem, tables: &Tables) -> Result<u32, Al
 }
 
 /// The same, 0 also where there are no tables.
-fn floor_by(alloc: Global, problem: &Problem, tables: &Option<Tables>) -> Result<u32, AllocError>
+pub(crate) fn floor_by(
+    alloc: Global,
+    problem: &Problem,
+    tables: &Option<Tables>,
+) -> Result<u32, AllocError>
     requires well_formed { IsWellFormed problem.now }
     requires tables { IfSome tables.now (CanSelect problem.now) }
     ensures { IfOk result (CostsAtLeast problem.now) }
@@ -215,7 +219,7 @@ fn try_small<A: Ascents>(
 
 /// The choice, or that there is none, by these tables, where each valid list costs at least the floor; the floor where there
 /// are none or the budget is spent.
-fn try_above(
+pub(crate) fn try_above(
     alloc: Global,
     problem: &Problem,
     tables: &Option<Tables>,
