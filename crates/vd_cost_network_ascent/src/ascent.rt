@@ -7,7 +7,7 @@ ghost use Rattle.vd_space.specs.Labelled.{IsLabelled};
 ghost use Rattle.vd_space.specs.Validity.{protocols as protocols_of};
 
 use crate::climbing::Climb;
-use crate::cost_network_shifts::shifts_of;
+use crate::cost_network_shifts::{put_back, shifts_of};
 use std::alloc::{AllocError, Global};
 use vd_base::{Items, Proto};
 use vd_cost_network_dual::Nets;
@@ -38,7 +38,8 @@ impl Ascent {
     }
 
     /// Shifts of arcs under which the bounds by arcs of the problem are greater than under most others, by the tables without
-    /// shifts. There are none where an amount became too great for a shift, or shifts too many for a certificate.
+    /// shifts. There are none where an amount became too great for a shift, or shifts too many for a certificate, also without
+    /// those that bring nothing.
     pub fn shifts(
         &self,
         alloc: Global,
@@ -48,8 +49,12 @@ impl Ascent {
         requires { AreNetworkTables problem.now tables.now }
         ensures { IfOk result (λ found. IfSome found (AreArcShifts problem.now)) }
     {
-        let nets = self.climb.lifted(alloc, tables.arcs.as_slice())?;
+        let mut nets = self.climb.lifted(alloc, tables.arcs.as_slice())?;
         let list = protocols(alloc, problem.hosts.as_slice().len() as u8)?;
+        if let Some(shifts) = network_shifts(alloc, problem, tables, list.as_slice(), &nets)? {
+            return Ok(Some(shifts));
+        }
+        put_back(alloc, tables.arcs.as_slice(), &mut nets)?;
         network_shifts(alloc, problem, tables, list.as_slice(), &nets)
     }
 }
