@@ -9,6 +9,8 @@ use Rattle.vd_execution.specs.declared.instructions.Reg.{Reg}
 use Rattle.vd_execution.specs.declared.instructions.Action.{Action}
 use Rattle.vd_execution.specs.declared.instructions.Action.TheVariants as action
 use Rattle.vd_semantics.specs.Stores.{put}
+use Rattle.vd_excuse_runs.specs.declared.side.Change.{Change}
+use Rattle.vd_excuse_runs.specs.declared.side.Change.TheVariants as change
 use Rattle.vd_excuse_runs.specs.declared.side.Side.{Side}
 use Rattle.vd_excuse_runs.specs.declared.side.Taken.{Taken}
 use Rattle.vd_excuse_runs.specs.Registers.{put_each, stored}
@@ -69,6 +71,11 @@ with_bits p item s = record s { bits = if nat_eq p.0 s.peer.0 then slice_set s.b
 
 abbrev pub with_pair : HostId → PairItem → Side → Side
 with_pair p item s = record s { pairs = if nat_eq p.0 s.peer.0 then slice_set s.pairs s.taken.pairs item else s.pairs }
+
+abbrev pub changed : HostId → Change → Side → Side
+changed p (change.Triple item) s = with_triple p item s
+changed p (change.Bits item) s = with_bits p item s
+changed p (change.Pair item) s = with_pair p item s
 
 -- what was taken once it is
 abbrev pub triples_taken : Side → HostId → Taken

@@ -1,11 +1,11 @@
 //! All hosts in one run.
 
 ghost use Rattle.std.specs.Prelude.{◌≡◌, ◌<◌, ◌≤◌, OnOk, IfOk, length, slice_index, slice_index_or, slice_set, take};
-ghost use Rattle.vd_excuse_runs.specs.Sides.{counted, empty_side, has_heard, performed, said_words, shared_bits, shared_pair, shared_triple, with_bits, with_pair, with_triple};
+ghost use Rattle.vd_excuse_runs.specs.Sides.{changed, counted, empty_side, has_heard, performed, said_words, shared_bits, shared_pair, shared_triple, with_bits, with_pair, with_triple};
 ghost use Rattle.vd_excuse_runs.specs.Runs.{acted, begun, is_other, next_begun, nobody, put_side, side_at, stood, told};
 ghost use Rattle.vd_excuse_runs.specs.declared.side.Side.{Side as HostSide};
 
-use crate::side::{Side, Taken};
+use crate::side::{Change, Side, Taken};
 use std::alloc::{AllocError, Global};
 use std::marker::Model;
 use vd_base::{HostId, Items, Words};
@@ -108,66 +108,24 @@ fn count_in(
     count_there(sides, host.0 as usize, counter, turn)
 }
 
-fn change_triple_there(sides: &mut Vec<Side>, at: usize, peer: HostId, item: Triple)
+fn change_there(sides: &mut Vec<Side>, at: usize, peer: HostId, change: Change)
     requires { at < length sides.old.items }
-    ensures { sides.new.items ≡ slice_set sides.old.items at (with_triple peer item (slice_index_or sides.old.items at empty_side)) }
+    ensures { sides.new.items ≡ slice_set sides.old.items at (changed peer change (slice_index_or sides.old.items at empty_side)) }
 {
-    sides[at].change_triple(peer, item);
+    sides[at].change(peer, change);
 }
 
-fn change_triple_in(
+fn change_in(
     sides: &mut Vec<Side>,
     alloc: Global,
     host: HostId,
     peer: HostId,
-    item: Triple,
+    change: Change,
 ) -> Result<(), AllocError>
-    ensures { OnOk result (sides.new.items ≡ put_side sides.old.items host.0 (with_triple peer item (side_at sides.old.items host.0))) }
+    ensures { OnOk result (sides.new.items ≡ put_side sides.old.items host.0 (changed peer change (side_at sides.old.items host.0))) }
 {
     reach(sides, alloc, host.0 as usize)?;
-    change_triple_there(sides, host.0 as usize, peer, item);
-    Ok(())
-}
-
-fn change_bits_there(sides: &mut Vec<Side>, at: usize, peer: HostId, item: Triple)
-    requires { at < length sides.old.items }
-    ensures { sides.new.items ≡ slice_set sides.old.items at (with_bits peer item (slice_index_or sides.old.items at empty_side)) }
-{
-    sides[at].change_bits(peer, item);
-}
-
-fn change_bits_in(
-    sides: &mut Vec<Side>,
-    alloc: Global,
-    host: HostId,
-    peer: HostId,
-    item: Triple,
-) -> Result<(), AllocError>
-    ensures { OnOk result (sides.new.items ≡ put_side sides.old.items host.0 (with_bits peer item (side_at sides.old.items host.0))) }
-{
-    reach(sides, alloc, host.0 as usize)?;
-    change_bits_there(sides, host.0 as usize, peer, item);
-    Ok(())
-}
-
-fn change_pair_there(sides: &mut Vec<Side>, at: usize, peer: HostId, item: PairItem)
-    requires { at < length sides.old.items }
-    ensures { sides.new.items ≡ slice_set sides.old.items at (with_pair peer item (slice_index_or sides.old.items at empty_side)) }
-{
-    sides[at].change_pair(peer, item);
-}
-
-fn change_pair_in(
-    sides: &mut Vec<Side>,
-    alloc: Global,
-    host: HostId,
-    peer: HostId,
-    item: PairItem,
-) -> Result<(), AllocError>
-    ensures { OnOk result (sides.new.items ≡ put_side sides.old.items host.0 (with_pair peer item (side_at sides.old.items host.0))) }
-{
-    reach(sides, alloc, host.0 as usize)?;
-    change_pair_there(sides, host.0 as usize, peer, item);
+    change_there(sides, host.0 as usize, peer, change);
     Ok(())
 }
 
@@ -337,7 +295,13 @@ impl Run {
     ) -> Result<(), AllocError>
         ensures { OnOk result (self.new ≡ put_side self.old host.0 (with_triple peer item (side_at self.old host.0))) }
     {
-        change_triple_in(&mut self.sides, self.alloc, host, peer, item)
+        change_in(
+            &mut self.sides,
+            self.alloc,
+            host,
+            peer,
+            Change::Triple(item),
+        )
     }
 
     /// The next triple of bits that a host shares with another becomes this one; past the end nothing changes.
@@ -349,7 +313,7 @@ impl Run {
     ) -> Result<(), AllocError>
         ensures { OnOk result (self.new ≡ put_side self.old host.0 (with_bits peer item (side_at self.old host.0))) }
     {
-        change_bits_in(&mut self.sides, self.alloc, host, peer, item)
+        change_in(&mut self.sides, self.alloc, host, peer, Change::Bits(item))
     }
 
     /// The next pair that a host shares with another becomes this one; past the end nothing changes.
@@ -361,6 +325,6 @@ impl Run {
     ) -> Result<(), AllocError>
         ensures { OnOk result (self.new ≡ put_side self.old host.0 (with_pair peer item (side_at self.old host.0))) }
     {
-        change_pair_in(&mut self.sides, self.alloc, host, peer, item)
+        change_in(&mut self.sides, self.alloc, host, peer, Change::Pair(item))
     }
 }

@@ -4,7 +4,7 @@ ghost use Rattle.std.specs.Prelude.{◌≡◌, ◌<◌, ◌+◌, ◌^◌, [], If
 ghost use Rattle.vd_tape.specs.Identities.{triple_at, pair_at};
 ghost use Rattle.vd_semantics.specs.Stores.{put};
 ghost use Rattle.vd_excuse_runs.specs.Registers.{put_in_cell, put_three, put_two};
-ghost use Rattle.vd_excuse_runs.specs.Sides.{bits_taken, counted, dealt_side, empty_side, further, has_heard, next_bits, next_pair, next_triple, pairs_taken, peer_of, performed, shared_bits, shared_pair, shared_triple, triples_taken, with_bits, with_pair, with_triple};
+ghost use Rattle.vd_excuse_runs.specs.Sides.{bits_taken, changed, counted, dealt_side, empty_side, further, has_heard, next_bits, next_pair, next_triple, pairs_taken, peer_of, performed, shared_bits, shared_pair, shared_triple, triples_taken, with_bits, with_pair, with_triple};
 
 use crate::registers::{cell, clear, hashed, read, write, write_each, write_from};
 use std::alloc::{AllocError, Global};
@@ -21,6 +21,14 @@ pub struct Taken {
     pub triples: usize,
     pub bits: usize,
     pub pairs: usize,
+}
+
+/// What the next item of a list that a host shares with another becomes.
+#[derive(Clone, Copy)]
+pub enum Change {
+    Triple(Triple),
+    Bits(Triple),
+    Pair(PairItem),
 }
 
 /// A host in one run: its registers, its inputs, its own words, and what it shares with one peer. With no other host it shares
@@ -240,7 +248,7 @@ impl Side {
     }
 
     /// The next triple that is shared with a host becomes another; past the end nothing changes.
-    pub fn change_triple(&mut self, peer: HostId, item: Triple)
+    fn change_triple(&mut self, peer: HostId, item: Triple)
         ensures { self.new ≡ with_triple peer item self.old }
     {
         let at = self.taken.triples;
@@ -250,7 +258,7 @@ impl Side {
     }
 
     /// The next triple of bits that is shared with a host becomes another; past the end nothing changes.
-    pub fn change_bits(&mut self, peer: HostId, item: Triple)
+    fn change_bits(&mut self, peer: HostId, item: Triple)
         ensures { self.new ≡ with_bits peer item self.old }
     {
         let at = self.taken.bits;
@@ -260,12 +268,23 @@ impl Side {
     }
 
     /// The next pair that is shared with a host becomes another; past the end nothing changes.
-    pub fn change_pair(&mut self, peer: HostId, item: PairItem)
+    fn change_pair(&mut self, peer: HostId, item: PairItem)
         ensures { self.new ≡ with_pair peer item self.old }
     {
         let at = self.taken.pairs;
         if peer.0 == self.peer.0 && at < self.pairs.as_slice().len() {
             self.pairs.set(at, item);
+        }
+    }
+
+    /// The next item of a list that is shared with a host becomes another; past the end nothing changes.
+    pub(crate) fn change(&mut self, peer: HostId, change: Change)
+        ensures { self.new ≡ changed peer change self.old }
+    {
+        match change {
+            Change::Triple(item) => self.change_triple(peer, item),
+            Change::Bits(item) => self.change_bits(peer, item),
+            Change::Pair(item) => self.change_pair(peer, item),
         }
     }
 
