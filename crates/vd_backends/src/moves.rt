@@ -6,10 +6,7 @@ ghost use Rattle.vd_base.specs.Holders.{holders};
 ghost use Rattle.vd_duet.specs.Builder.{HasRoom, TakesFew};
 ghost use Rattle.vd_duet.specs.Calls.{Makes, hosts_of, in_clear};
 ghost use Rattle.vd_duet.specs.Laws.{AreKnown};
-ghost use Rattle.vd_clear.specs.Copies.{clear_calls};
 ghost use Rattle.vd_backend_sharing.specs.PairCalls.{places_at, shares_of};
-ghost use Rattle.vd_words.specs.AddCalls.{add_calls};
-ghost use Rattle.vd_circuit.specs.CircuitCalls.{circuit_calls};
 ghost use Rattle.vd_backend_laws.specs.Commits.{commit_calls};
 ghost use Rattle.vd_backend_laws.specs.Moves.{copies_at as copies_of, only as only_of};
 ghost use Rattle.vd_backends.specs.Formed.{AreFormed, is_named};
@@ -38,17 +35,17 @@ fn only(x: &Parts) -> Reg
     }
 }
 
-/// The move of a word from copies to one host.
-fn show(set: HostSet, x: &Parts, at: HostId, to: &mut Duet) -> Result<Parts, AllocError>
-    requires known { AreKnown (holders (proto.Rep set)) to.old.next }
+/// The move of a word to one host, in clear.
+fn show<B: Backend>(back_end: &B, x: &Parts, at: HostId, to: &mut Duet) -> Result<Parts, AllocError>
+    requires known { AreKnown (holders (B.calls back_end.now).proto) to.old.next }
     requires at { at.0 < length to.old.next }
-    requires placed { hosts_of (in_clear x.now) ≡ holders (proto.Rep set) }
+    requires placed { hosts_of (in_clear x.now) ≡ holders (B.calls back_end.now).proto }
     requires room { HasRoom 0 to.old.next }
-    ensures exact { IfOk result (λ y. Shows (clear_calls (proto.Rep set)) at (in_clear x.now) to.old (in_clear y) to.new) }
+    ensures exact { IfOk result (λ y. Shows (B.calls back_end.now) at (in_clear x.now) to.old (in_clear y) to.new) }
     ensures hosts { IfOk result (λ y. hosts_of (in_clear y) ≡ holders (proto.Local at)) }
     ensures few { OnOk result (TakesFew to.old.next to.new.next) }
 {
-    let shown = Replica(set).show(x, at, to)?;
+    let shown = back_end.show(x, at, to)?;
     Ok(Items::from_slice(to.alloc(), &[(at, shown)])?)
 }
 
@@ -63,7 +60,7 @@ fn bring_copies(set: HostSet, onto: Proto, x: &Parts, to: &mut Duet) -> Result<P
     ensures few { OnOk result (TakesFew to.old.next to.new.next) }
 {
     match onto {
-        Proto::Local(host) => show(set, x, host, to),
+        Proto::Local(host) => show(&Replica(set), x, host, to),
         Proto::Rep(other) => spread(x, set, other, to),
         Proto::Add(first, second) => AddPair(first, second).adopt(x, to),
         Proto::Xor(first, second) => CircuitPair(first, second).adopt(x, to),
@@ -90,58 +87,21 @@ fn same(first: HostId, second: HostId, x: &Parts, alloc: Global) -> Result<Parts
     PartRegisters::of(x).at(first, second, alloc)
 }
 
-/// The move of a word from sums of two hosts to one host.
-fn show_sums(pair: AddPair, x: &Parts, at: HostId, to: &mut Duet) -> Result<Parts, AllocError>
-    requires known { AreKnown (holders (proto.Add pair.0 pair.1)) to.old.next }
-    requires at { at.0 < length to.old.next }
-    requires placed { hosts_of (in_clear x.now) ≡ holders (proto.Add pair.0 pair.1) }
+/// The move of a word to copies at these hosts.
+fn open<B: Backend>(
+    back_end: &B,
+    set: HostSet,
+    x: &Parts,
+    to: &mut Duet,
+) -> Result<Parts, AllocError>
+    requires known { AreKnown (holders (B.calls back_end.now).proto) to.old.next }
+    requires placed { hosts_of (in_clear x.now) ≡ holders (B.calls back_end.now).proto }
     requires room { HasRoom 0 to.old.next }
-    ensures exact { IfOk result (λ y. Shows (add_calls pair.0 pair.1) at (in_clear x.now) to.old (in_clear y) to.new) }
-    ensures hosts { IfOk result (λ y. hosts_of (in_clear y) ≡ holders (proto.Local at)) }
-    ensures few { OnOk result (TakesFew to.old.next to.new.next) }
-{
-    let shown = pair.show(x, at, to)?;
-    Ok(Items::from_slice(to.alloc(), &[(at, shown)])?)
-}
-
-/// The move of a word from sums of two hosts to copies at both.
-fn open_sums(pair: AddPair, set: HostSet, x: &Parts, to: &mut Duet) -> Result<Parts, AllocError>
-    requires known { AreKnown (holders (proto.Add pair.0 pair.1)) to.old.next }
-    requires placed { hosts_of (in_clear x.now) ≡ holders (proto.Add pair.0 pair.1) }
-    requires room { HasRoom 0 to.old.next }
-    ensures exact { IfOk result (λ y. Opens (add_calls pair.0 pair.1) set (in_clear x.now) to.old (in_clear y) to.new) }
+    ensures exact { IfOk result (λ y. Opens (B.calls back_end.now) set (in_clear x.now) to.old (in_clear y) to.new) }
     ensures hosts { IfOk result (λ y. hosts_of (in_clear y) ≡ holders (proto.Rep set)) }
     ensures few { OnOk result (TakesFew to.old.next to.new.next) }
 {
-    let all = pair.show_all(x, to)?;
-    let hosts = set.members(to.alloc())?;
-    copies_at(hosts.as_slice(), &all, to.alloc())
-}
-
-/// The move of a word from exclusive ors of two hosts to one host.
-fn show_bits(pair: CircuitPair, x: &Parts, at: HostId, to: &mut Duet) -> Result<Parts, AllocError>
-    requires known { AreKnown (holders (proto.Xor pair.0 pair.1)) to.old.next }
-    requires at { at.0 < length to.old.next }
-    requires placed { hosts_of (in_clear x.now) ≡ holders (proto.Xor pair.0 pair.1) }
-    requires room { HasRoom 0 to.old.next }
-    ensures exact { IfOk result (λ y. Shows (circuit_calls pair.0 pair.1) at (in_clear x.now) to.old (in_clear y) to.new) }
-    ensures hosts { IfOk result (λ y. hosts_of (in_clear y) ≡ holders (proto.Local at)) }
-    ensures few { OnOk result (TakesFew to.old.next to.new.next) }
-{
-    let shown = pair.show(x, at, to)?;
-    Ok(Items::from_slice(to.alloc(), &[(at, shown)])?)
-}
-
-/// The move of a word from exclusive ors of two hosts to copies at both.
-fn open_bits(pair: CircuitPair, set: HostSet, x: &Parts, to: &mut Duet) -> Result<Parts, AllocError>
-    requires known { AreKnown (holders (proto.Xor pair.0 pair.1)) to.old.next }
-    requires placed { hosts_of (in_clear x.now) ≡ holders (proto.Xor pair.0 pair.1) }
-    requires room { HasRoom 0 to.old.next }
-    ensures exact { IfOk result (λ y. Opens (circuit_calls pair.0 pair.1) set (in_clear x.now) to.old (in_clear y) to.new) }
-    ensures hosts { IfOk result (λ y. hosts_of (in_clear y) ≡ holders (proto.Rep set)) }
-    ensures few { OnOk result (TakesFew to.old.next to.new.next) }
-{
-    let all = pair.show_all(x, to)?;
+    let all = back_end.show_all(x, to)?;
     let hosts = set.members(to.alloc())?;
     copies_at(hosts.as_slice(), &all, to.alloc())
 }
@@ -164,8 +124,8 @@ fn bring_sums(
 {
     let pair = AddPair(first, second);
     match onto {
-        Proto::Local(host) => show_sums(pair, x, host, to),
-        Proto::Rep(set) => open_sums(pair, set, x, to),
+        Proto::Local(host) => show(&pair, x, host, to),
+        Proto::Rep(set) => open(&pair, set, x, to),
         Proto::Add(one, other) => same(one, other, x, to.alloc()),
         Proto::Xor(one, other) => to_xor(&AddPair(one, other), x, to),
         Proto::Commit(_, _) => Ok(Items::new(to.alloc())),
@@ -190,8 +150,8 @@ fn bring_bits(
 {
     let pair = CircuitPair(first, second);
     match onto {
-        Proto::Local(host) => show_bits(pair, x, host, to),
-        Proto::Rep(set) => open_bits(pair, set, x, to),
+        Proto::Local(host) => show(&pair, x, host, to),
+        Proto::Rep(set) => open(&pair, set, x, to),
         Proto::Add(one, other) => to_add(&XorPair(one, other), x, to),
         Proto::Xor(one, other) => same(one, other, x, to.alloc()),
         Proto::Commit(_, _) => Ok(Items::new(to.alloc())),
