@@ -6,14 +6,17 @@ unfoldable pub schedule_sentence : List ℕ
 schedule_sentence = codes "a schedule has names of hosts, and may end with `all`"
 
 -- of a machine-written file, and the offset from which it goes on as none does
+abbrev pub from_byte : ℕ → List ℕ → List ℕ
+from_byte offset said = three (codes "from byte ") (decimal offset) said
+
 abbrev pub deal_sentence : ℕ → List ℕ
-deal_sentence offset = three (codes "from byte ") (decimal offset) (codes " on no deal file goes on as this file does; `viaduct deal` makes deal files")
+deal_sentence offset = from_byte offset (codes " on no deal file goes on as this file does; `viaduct deal` makes deal files")
 
 abbrev pub certificate_sentence : ℕ → List ℕ
-certificate_sentence offset = three (codes "from byte ") (decimal offset) (codes " on no certificate goes on as this file does; `viaduct choose` makes certificates")
+certificate_sentence offset = from_byte offset (codes " on no certificate goes on as this file does; `viaduct choose` makes certificates")
 
 abbrev pub program_sentence : ℕ → List ℕ
-program_sentence offset = three (codes "from byte ") (decimal offset) (codes " on no host program goes on as this file does; `viaduct compile` makes host programs")
+program_sentence offset = from_byte offset (codes " on no host program goes on as this file does; `viaduct compile` makes host programs")
 
 abbrev pub host_sentence : List ℕ → List ℕ
 host_sentence word = three (codes "`") word (codes "` is no host of the source")

@@ -30,15 +30,20 @@ pub fn schedule_sentence() -> &'static str
     "a schedule has names of hosts, and may end with `all`"
 }
 
+/// What is said of a file from a byte on.
+fn from_byte(alloc: Global, offset: u32, said: &[u8]) -> Result<Bytes, AllocError>
+    ensures { IfOk result (λ text. text ≡ files.from_byte offset said.now) }
+{
+    let mut buffer = Buffer::new();
+    three(alloc, b"from byte ", buffer.format(offset).as_bytes(), said)
+}
+
 /// What is said of a deal file that goes on as no deal does from this byte on.
 pub fn deal_sentence(alloc: Global, offset: u32) -> Result<Bytes, AllocError>
     ensures { IfOk result (λ text. text ≡ files.deal_sentence offset) }
 {
-    let mut buffer = Buffer::new();
-    let offset = buffer.format(offset).as_bytes();
-    three(
+    from_byte(
         alloc,
-        b"from byte ",
         offset,
         b" on no deal file goes on as this file does; `viaduct deal` makes deal files",
     )
@@ -48,11 +53,8 @@ pub fn deal_sentence(alloc: Global, offset: u32) -> Result<Bytes, AllocError>
 pub fn certificate_sentence(alloc: Global, offset: u32) -> Result<Bytes, AllocError>
     ensures { IfOk result (λ text. text ≡ files.certificate_sentence offset) }
 {
-    let mut buffer = Buffer::new();
-    let offset = buffer.format(offset).as_bytes();
-    three(
+    from_byte(
         alloc,
-        b"from byte ",
         offset,
         b" on no certificate goes on as this file does; `viaduct choose` makes certificates",
     )
@@ -62,11 +64,8 @@ pub fn certificate_sentence(alloc: Global, offset: u32) -> Result<Bytes, AllocEr
 pub fn program_sentence(alloc: Global, offset: u32) -> Result<Bytes, AllocError>
     ensures { IfOk result (λ text. text ≡ files.program_sentence offset) }
 {
-    let mut buffer = Buffer::new();
-    let offset = buffer.format(offset).as_bytes();
-    three(
+    from_byte(
         alloc,
-        b"from byte ",
         offset,
         b" on no host program goes on as this file does; `viaduct compile` makes host programs",
     )
