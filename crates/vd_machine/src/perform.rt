@@ -1,7 +1,7 @@
 //! One action of a host by itself.
 
 ghost use Rattle.std.specs.Prelude.{◌≡◌, ◌+◌, ◌<◌, [], Some, length, slice_get, slice_set, slice_index, slice_index_or};
-ghost use Rattle.vd_execution.specs.Registers.{applied, written};
+ghost use Rattle.vd_execution.specs.Registers.{applied, put, written};
 ghost use Rattle.vd_execution.specs.Ranges.{ActionFits};
 ghost use Rattle.vd_execution.specs.Step.{need_of_action, advanced};
 ghost use Rattle.vd_machine.specs.Kept.{action_after};
@@ -10,7 +10,7 @@ ghost use Rattle.vd_machine.specs.Machines.{held, list_of, cursors_of, IsMet, wo
 use crate::lists::{Lists, Taken, pairs_with, triples_with};
 use crate::registers::{clear, hashed, write, write_from};
 use vd_base::{HostId, Items, Op, combine};
-use vd_execution::{Action, Binary};
+use vd_execution::{Action, Binary, Reg};
 use vd_tape::{PairItem, Triple};
 
 /// What an operation on two words gives.
@@ -73,6 +73,19 @@ fn take_pair(
     item
 }
 
+/// Three registers get the words of a triple.
+fn write_triple(registers: &mut Vec<u32>, a: Reg, b: Reg, c: Reg, item: Triple)
+    requires a { a.0 < length registers.old.items }
+    requires b { b.0 < length registers.old.items }
+    requires c { c.0 < length registers.old.items }
+    ensures value { held registers.new.items ≡ put (put (put (held registers.old.items) a.0 item.a) b.0 item.b) c.0 item.c }
+    ensures len { length registers.new.items ≡ length registers.old.items }
+{
+    write(registers, a.0 as usize, item.a);
+    write(registers, b.0 as usize, item.b);
+    write(registers, c.0 as usize, item.c);
+}
+
 /// One action.
 #[tactic(auto, using(crate::proofs::Items::peer_there, crate::proofs::Items::inputs_further, crate::proofs::Items::own_further, crate::proofs::Items::triples_further, crate::proofs::Items::bits_further, crate::proofs::Items::pairs_further))]
 pub(crate) fn perform(registers: &mut Vec<u32>, taken: &mut Taken, lists: &Lists, action: &Action)
@@ -118,15 +131,11 @@ pub(crate) fn perform(registers: &mut Vec<u32>, taken: &mut Taken, lists: &Lists
         }
         Action::Triple(p, a, b, c) => {
             let item = take_triple(&mut taken.triples, &lists.deal.triples, lists.deal.me, *p);
-            write(registers, a.0 as usize, item.a);
-            write(registers, b.0 as usize, item.b);
-            write(registers, c.0 as usize, item.c)
+            write_triple(registers, *a, *b, *c, item)
         }
         Action::Bits(p, a, b, c) => {
             let item = take_triple(&mut taken.bits, &lists.deal.bits, lists.deal.me, *p);
-            write(registers, a.0 as usize, item.a);
-            write(registers, b.0 as usize, item.b);
-            write(registers, c.0 as usize, item.c)
+            write_triple(registers, *a, *b, *c, item)
         }
         Action::Pair(p, s, x) => {
             let item = take_pair(&mut taken.pairs, &lists.deal.pairs, lists.deal.me, *p);
