@@ -4,7 +4,8 @@ ghost use Rattle.std.specs.Prelude.{◌≡◌, IfSome};
 ghost use Rattle.std.specs.List.{flat_map};
 ghost use Rattle.vd_report.specs.ChoiceLines.{host_name};
 ghost use Rattle.vd_outside.specs.Sink.{WritesAll};
-ghost use Rattle.vd_cmd_plan.specs.Lines.{Says, bad_deal_line, bound_line, certificate_line, child_line, children_line, cost_line, deal_line, flow_line, kind_name, limit_line, memory_line, name_line, schedule_line, sized_line, status_line, syntax_line, rule_line, input_line, offset_line, quantity_name, table_line, table_word};
+ghost use Rattle.vd_cmd_plan.specs.Lines as told;
+ghost use Rattle.vd_cmd_plan.specs.Lines.{Says, bad_deal_line, bound_line, certificate_line, child_line, children_line, cost_line, deal_line, flow_line, kind_name, limit_line, memory_line, name_line, schedule_line, sized_line, syntax_line, rule_line, input_line, offset_line, quantity_name, table_line, table_word};
 
 use crate::deliver::write_parts;
 use crate::host_lines::write_host_status;
@@ -27,17 +28,17 @@ const LINE_BYTES: usize = 4_096;
 /// Writes the line of a status, as far as the stream takes it. It goes out in one write, unless it is longer than a pipe takes whole
 /// or there is no memory for it.
 pub fn tell<E: Sink>(alloc: Global, err: &mut E, status: &Status)
-    ensures { Says (status_line status.now) (E.view err.old) (E.view err.new) }
+    ensures { Says (told.status_line status.now) (E.view err.old) (E.view err.new) }
 {
-    let _ = match line_of(alloc, status) {
+    let _ = match status_line(alloc, status) {
         Some(line) => write_all(err, line.bytes()),
         None => write_status(err, status),
     };
 }
 
 /// The line of a status, put together. There is none where it is longer than a pipe takes whole, or there is no memory for it.
-fn line_of(alloc: Global, status: &Status) -> Option<Recorder>
-    ensures { IfSome result (λ line. line.bytes ≡ status_line status.now) }
+fn status_line(alloc: Global, status: &Status) -> Option<Recorder>
+    ensures { IfSome result (λ line. line.bytes ≡ told.status_line status.now) }
 {
     let mut line = Recorder::new(alloc, LINE_BYTES).ok()?;
     write_status(&mut line, status).ok()?;
@@ -46,7 +47,7 @@ fn line_of(alloc: Global, status: &Status) -> Option<Recorder>
 
 /// Writes the line of a status.
 fn write_status<E: Sink>(err: &mut E, status: &Status) -> Result<(), Failed>
-    ensures { WritesAll (status_line status.now) (E.view err.old) (E.view err.new) result }
+    ensures { WritesAll (told.status_line status.now) (E.view err.old) (E.view err.new) result }
 {
     match status {
         Status::Ended => Ok(()),
