@@ -10,7 +10,7 @@ use vd_base::Bytes;
 use vd_base::limits::SOURCE_BYTES;
 use vd_cmd_labels::{read_source, resolve_source};
 use vd_cmd_plan::{Status, load};
-use vd_cmd_rewrite::run_program;
+use vd_cmd_rewrite::executed_program;
 use vd_core::Program;
 use vd_outside::Files;
 
@@ -29,7 +29,7 @@ pub fn program_of(alloc: Global, text: &[u8]) -> Result<Program, Status>
 {
     let tree = read_source(alloc, text)?;
     let source = resolve_source(alloc, tree)?;
-    let program = run_program(alloc, source)?;
+    let program = executed_program(alloc, source)?;
     Ok(program)
 }
 

@@ -11,7 +11,7 @@ use std::alloc::Global;
 use vd_base::{HostId, HostSet, Items, Names, Text};
 use vd_cmd_labels::{least_labels, load_source};
 use vd_cmd_plan::{Answer, Status};
-use vd_cmd_rewrite::run_program;
+use vd_cmd_rewrite::executed_program;
 use vd_core::Program;
 use vd_noninter::depends as hosts_that_matter;
 use vd_outside::Files;
@@ -65,7 +65,7 @@ fn depends_in_source(alloc: Global, source: Resolved, name: &str) -> Result<Answ
     ensures executes { ExecutesSource name.now source result }
     ensures tells { TellsSource name.now source result }
 {
-    let program = run_program(alloc, source)?;
+    let program = executed_program(alloc, source)?;
     depends_in_program(alloc, &program, name)
 }
 

@@ -8,7 +8,7 @@ mod rewrite_boolean_guards;
 mod rewrite_labels;
 mod rewrite_unchanged;
 
-pub use program::run_program;
+pub use program::executed_program;
 pub use rewrite_boolean_guards::resolved_sources_have_boolean_guards;
 pub use rewrite_labels::{
     least_labels_do_not_rise, selections_keep_labels, turned_programs_can_be_labelled,

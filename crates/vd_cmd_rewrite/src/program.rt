@@ -93,7 +93,7 @@ fn with_loops(alloc: Global, program: Program) -> Result<Program, AllocError>
 }
 
 /// The program of a source that protocols are chosen for and that is run. It fails only where memory runs out.
-pub fn run_program(alloc: Global, source: Resolved) -> Result<Program, AllocError>
+pub fn executed_program(alloc: Global, source: Resolved) -> Result<Program, AllocError>
     ensures form { IfOk result (IsRunForm source) }
     ensures made { IfOk result (IsRunProgram source) }
     ensures tells { IfOk result (TellsAs source) }

@@ -1,5 +1,5 @@
 use Rattle.vd_cmd_rewrite.proofs.Made.{run_is_form, run_is_program, run_tells_as}
-use Rattle.vd_cmd_rewrite.proofs.program.run_program.Goals as goal
+use Rattle.vd_cmd_rewrite.proofs.program.executed_program.Goals as goal
 
 pub returns-clause-form : goal.returns-clause-form
 returns-clause-form c =
