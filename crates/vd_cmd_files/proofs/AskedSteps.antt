@@ -14,32 +14,32 @@ use Rattle.vd_cmd_labels.proofs.Front.{some_texts}
 use Rattle.vd_cmd_labels.specs.Inputs.{inputs_then, HoldsInputs}
 use Rattle.vd_cmd_files.specs.Outcomes.{ReplayOutcomes}
 use Rattle.vd_cmd_files.proofs.Picked.{some_outcomes}
-use Rattle.vd_cmd_files.specs.declared.asked.Asked.{Asked}
+use Rattle.vd_cmd_files.specs.declared.run_files.RunFiles.{RunFiles}
 use Rattle.vd_cmd_files.specs.Asking.{AreAsked, HoldAsked, asked_of, asked_then}
 use Rattle.vd_cmd_files.specs.Deals.{HoldDeals, deals_then}
 use Rattle.vd_base.specs.Words.{InputsAreWords}
 use Rattle.vd_cmd_files.specs.Schedules.{HoldsSchedule, schedule_then}
 
 module _ (texts : TextOutcomes) (outcomes : ReplayOutcomes) (words : ReplayWords) (names : List (List ℕ)) where
-  abbrev after_deals : (Asked → Contents → Plan) → List (List ℕ) → List Deal → Contents → Plan
+  abbrev after_deals : (RunFiles → Contents → Plan) → List (List ℕ) → List Deal → Contents → Plan
   after_deals rest inputs deals = schedule_then outcomes words.schedule names (λ schedule. rest (asked_of words inputs deals schedule))
 
-  abbrev after_inputs : (Asked → Contents → Plan) → List (List ℕ) → Contents → Plan
+  abbrev after_inputs : (RunFiles → Contents → Plan) → List (List ℕ) → Contents → Plan
   after_inputs rest inputs = deals_then outcomes words.prefix names (after_deals rest inputs)
 
   module _ (before : FilesView) where
     pub inputs_refused : (now : FilesView) (status : Status) → ExecutesStep {T = List (List ℕ)} (inputs_then texts words.inputs names) before now (Err status)
-        → ExecutesStep {T = Asked} (asked_then texts outcomes words names) before now (Err status)
+        → ExecutesStep {T = RunFiles} (asked_then texts outcomes words names) before now (Err status)
     inputs_refused now status first = λ rest. first (after_inputs rest)
 
     module _ (mid : FilesView) (inputs : List (List ℕ)) (first : ExecutesStep (inputs_then texts words.inputs names) before mid (Ok inputs)) where
       pub deals_refused : (now : FilesView) (status : Status) → ExecutesStep {T = List Deal} (deals_then outcomes words.prefix names) mid now (Err status)
-          → ExecutesStep {T = Asked} (asked_then texts outcomes words names) before now (Err status)
+          → ExecutesStep {T = RunFiles} (asked_then texts outcomes words names) before now (Err status)
       deals_refused now status second = λ rest. first (after_inputs rest) now (Err status) (second (after_deals rest inputs))
 
       module _ (late : FilesView) (deals : List Deal) (second : ExecutesStep (deals_then outcomes words.prefix names) mid late (Ok deals)) where
         pub schedule_refused : (now : FilesView) (status : Status) → ExecutesStep {T = Schedule} (schedule_then outcomes words.schedule names) late now (Err status)
-            → ExecutesStep {T = Asked} (asked_then texts outcomes words names) before now (Err status)
+            → ExecutesStep {T = RunFiles} (asked_then texts outcomes words names) before now (Err status)
         schedule_refused now status third = λ rest.
             first (after_inputs rest) now (Err status) (second (after_deals rest inputs) now (Err status) (third (λ schedule. rest (asked_of words inputs deals schedule))))
 
@@ -48,7 +48,7 @@ module _ (texts : TextOutcomes) (outcomes : ReplayOutcomes) (words : ReplayWords
         all_read now schedule third = λ rest last result then.
             first (after_inputs rest) last result (second (after_deals rest inputs) last result (third (λ s. rest (asked_of words inputs deals s)) last result then))
 
-pub are_asked : (names seen : List (List ℕ)) (asked : Asked) → length names ≤ most_hosts → seen ≡ names → length asked.inputs ≡ length names → InputsAreWords asked.inputs → length asked.deals ≡ length seen → AreDealsOf (length seen) asked.deals
+pub are_asked : (names seen : List (List ℕ)) (asked : RunFiles) → length names ≤ most_hosts → seen ≡ names → length asked.inputs ≡ length names → InputsAreWords asked.inputs → length asked.deals ≡ length seen → AreDealsOf (length seen) asked.deals
     → AreAsked (length names) asked
 are_asked names seen asked few same inputs are_words all deals = record {
   few = few;

@@ -12,22 +12,22 @@ use Rattle.vd_cmd_plan.proofs.Front.{step_keeps, step_tells}
 use Rattle.vd_cmd_labels.proofs.Front.{some_labels, some_texts}
 use Rattle.vd_cmd_choice.specs.Programs.{HoldsProgram, LoadsProgram, program_then}
 use Rattle.vd_cmd_choice.specs.Choice.{IsSelected, no_list}
-use Rattle.vd_cmd_files.specs.declared.asked.Asked.{Asked}
+use Rattle.vd_cmd_files.specs.declared.run_files.RunFiles.{RunFiles}
 use Rattle.vd_cmd_files.specs.Asking.{HoldAsked}
 use Rattle.vd_cmd_replay.specs.Counting.{CountsOf, CountsReplay, IsCount, packets_for}
 
 -- at the choice of protocols
-pub choice_counted : (program : NormalForm) (a : Assignment) (asked : Asked) (packets : Option ℕ) (result : Result Answer Status) → IsSelected program a
+pub choice_counted : (program : NormalForm) (a : Assignment) (asked : RunFiles) (packets : Option ℕ) (result : Result Answer Status) → IsSelected program a
     → OnOk result (packets ≡ Some (packets_for program a.protocols asked)) → CountsOf program asked packets result
 choice_counted program a asked packets (Ok answer) selected is = λ e. record { assignment = a; selected = selected; packets_are = is }
 choice_counted program a asked packets (Err status) selected is = tt
 
 -- where no list is valid, nothing is counted
-pub none_counted : (program : NormalForm) (asked : Asked) (packets : Option ℕ) (found : LabelledForm) (answer : Answer) → answer ≡ no_list found → CountsOf program asked packets (Ok answer)
+pub none_counted : (program : NormalForm) (asked : RunFiles) (packets : Option ℕ) (found : LabelledForm) (answer : Answer) → answer ≡ no_list found → CountsOf program asked packets (Ok answer)
 none_counted program asked packets found answer is = λ e. let wrong : NoAssignment found ≡ Ended = sym (ap (λ (a : Answer). a.status) is) ∙ e in absurd (cc wrong)
 
 -- of the source, whose files say the same after it was fetched
-pub replay_counted : (words : ReplayWords) (before mid : FilesView) (packets : Option ℕ) (program form chosen : NormalForm) (asked : Asked) (result : Result Answer Status) → LoadsProgram words.source before mid (Ok program)
+pub replay_counted : (words : ReplayWords) (before mid : FilesView) (packets : Option ℕ) (program form chosen : NormalForm) (asked : RunFiles) (result : Result Answer Status) → LoadsProgram words.source before mid (Ok program)
     → (IsTrue before.told → HoldsProgram words.source before.contents program) → form ≡ program → (IsTrue mid.told → HoldAsked words form.hosts mid.contents asked) → chosen ≡ program → CountsOf chosen asked packets result
     → CountsReplay words before packets result
 replay_counted words before mid packets program form chosen asked (Ok answer) loads held same held_asked is_chosen counts = λ t e.

@@ -11,12 +11,12 @@ use Rattle.vd_cmd_plan.proofs.Front.{step_keeps, step_tells}
 use Rattle.vd_cmd_labels.proofs.Front.{some_labels, some_texts}
 use Rattle.vd_cmd_choice.specs.Programs.{HoldsProgram, LoadsProgram, program_then}
 use Rattle.vd_base.specs.Words.{InputsAreWords}
-use Rattle.vd_cmd_files.specs.declared.asked.Asked.{Asked}
+use Rattle.vd_cmd_files.specs.declared.run_files.RunFiles.{RunFiles}
 use Rattle.vd_cmd_files.specs.Asking.{HoldAsked}
 use Rattle.vd_cmd_replay.specs.Telling.{IsReport, IsReportOf, TellsHeadline, TellsOf}
 
 -- The outputs of a source are those of the program that is run for it, and the files say the same after the source was fetched.
-pub headline_told : (words : ReplayWords) (before mid : FilesView) (program form chosen : NormalForm) (asked : Asked) (result : Result Answer Status) → LoadsProgram words.source before mid (Ok program)
+pub headline_told : (words : ReplayWords) (before mid : FilesView) (program form chosen : NormalForm) (asked : RunFiles) (result : Result Answer Status) → LoadsProgram words.source before mid (Ok program)
     → (IsTrue before.told → HoldsProgram words.source before.contents program) → form ≡ program → (IsTrue mid.told → HoldAsked words form.hosts mid.contents asked) → InputsAreWords asked.inputs → chosen ≡ program
     → TellsOf chosen asked result → TellsHeadline words before result
 headline_told words before mid program form chosen asked (Ok answer) loads held same held_asked all_words is_chosen tells = λ t e.

@@ -36,14 +36,14 @@ use Rattle.vd_world.specs.Told.{TellsUnder}
 use Rattle.vd_world.proofs.Front.{programs_tell}
 use Rattle.vd_cmd_choice.specs.Choice.{IsSelected}
 use Rattle.vd_cmd_compile.proofs.Front.{code_count, runnable_of, covered, stored_for}
-use Rattle.vd_cmd_files.specs.declared.asked.Asked.{Asked}
+use Rattle.vd_cmd_files.specs.declared.run_files.RunFiles.{RunFiles}
 use Rattle.vd_cmd_files.specs.Asking.{AreAsked}
 use Rattle.vd_cmd_replay.specs.Counting.{packets_for}
 use Rattle.vd_cmd_replay.specs.Replaying.{report_for, world_for}
 use Rattle.vd_cmd_replay.specs.Telling.{IsReport, TellsOf}
 
 -- the deals that were read are the deals of all hosts
-pub dealt : (hosts : ℕ) (asked : Asked) → AreAsked hosts asked → AreDeals asked.deals
+pub dealt : (hosts : ℕ) (asked : RunFiles) → AreAsked hosts asked → AreDeals asked.deals
 dealt hosts asked are =
     let few : length asked.deals ≤ most_hosts = let limit = are.few in let all = are.all in omega (arith, limit, all) in
     all_deals asked.deals few (subst (λ (n : ℕ). AreDealsOf n asked.deals) (sym are.all) are.deals)
@@ -52,7 +52,7 @@ pub few_names : (program form : NormalForm) → IsWellMade program → form ≡ 
 few_names program form made same = subst (λ (f : NormalForm). length f.hosts ≤ most_hosts) (sym same) made.limits.hosts
 
 -- a report is told of, whatever the status
-pub told_then : (program : NormalForm) (asked : Asked) (result : Result Answer Status) → IfOk result (λ answer. IsReport program (program_outputs program asked.inputs) asked answer.printed) → TellsOf program asked result
+pub told_then : (program : NormalForm) (asked : RunFiles) (result : Result Answer Status) → IfOk result (λ answer. IsReport program (program_outputs program asked.inputs) asked answer.printed) → TellsOf program asked result
 told_then program asked (Ok answer) is = λ e. is
 told_then program asked (Err status) is = tt
 
@@ -86,7 +86,7 @@ module _ (program : NormalForm) (a : Assignment) (made : IsWellMade program) (nu
   }
 
   -- so all hosts can be played
-  pub are_for_all : (codes : List (List Instr)) (asked : Asked) → codes ≡ host_codes program list → AreAsked (length program.hosts) asked → AreForAll codes asked.inputs asked.deals
+  pub are_for_all : (codes : List (List Instr)) (asked : RunFiles) → codes ≡ host_codes program list → AreAsked (length program.hosts) asked → AreForAll codes asked.inputs asked.deals
   are_for_all codes asked is are = subst (λ (cs : List (List Instr)). AreForAll cs asked.inputs asked.deals) (sym is) (record {
     are_codes = (joint_of program list, are_codes);
     all_inputs = are.inputs ∙ sym (code_count program list);
@@ -97,13 +97,13 @@ module _ (program : NormalForm) (a : Assignment) (made : IsWellMade program) (nu
   host_count : (codes : List (List Instr)) → codes ≡ host_codes program list → length codes ≡ length program.hosts
   host_count codes is = ap (λ (cs : List (List Instr)). length cs) is ∙ code_count program list
 
-  world_is : (codes : List (List Instr)) (asked : Asked) (w : World) → codes ≡ host_codes program list
+  world_is : (codes : List (List Instr)) (asked : RunFiles) (w : World) → codes ≡ host_codes program list
       → ((j : Joint) → AreCodesOf codes j → w ≡ replayed (supply_of_files asked.inputs asked.deals) (length codes) asked.schedule (started j)) → w ≡ world_for program list asked
   world_is codes asked w is world =
       let of_joint : AreCodesOf codes (joint_of program list) = subst (λ (cs : List (List Instr)). AreCodesOf cs (joint_of program list)) (sym is) are_codes in
       world (joint_of program list) of_joint ∙ ap (λ (k : ℕ). replayed (supply_of_files asked.inputs asked.deals) k asked.schedule (started (joint_of program list))) (host_count codes is)
 
-  pub report_is : (codes : List (List Instr)) (asked : Asked) (form : NormalForm) (s : Supply) (w : World) (printed : List ℕ) → codes ≡ host_codes program list → form ≡ program
+  pub report_is : (codes : List (List Instr)) (asked : RunFiles) (form : NormalForm) (s : Supply) (w : World) (printed : List ℕ) → codes ≡ host_codes program list → form ≡ program
       → s ≡ supply_of_files asked.inputs asked.deals → ((j : Joint) → AreCodesOf codes j → w ≡ replayed (supply_of_files asked.inputs asked.deals) (length codes) asked.schedule (started j))
       → printed ≡ report_of form.hosts s w asked.messages → printed ≡ report_for program list asked
   report_is codes asked form s w printed is same supply world report =
@@ -111,7 +111,7 @@ module _ (program : NormalForm) (a : Assignment) (made : IsWellMade program) (nu
       report ∙ (λ i. report_of (same i).hosts (supply i) (there i) asked.messages)
 
   -- the packets of that world are counted
-  pub count_is : (codes : List (List Instr)) (asked : Asked) (w : World) (hosts packets : ℕ) → codes ≡ host_codes program list
+  pub count_is : (codes : List (List Instr)) (asked : RunFiles) (w : World) (hosts packets : ℕ) → codes ≡ host_codes program list
       → ((j : Joint) → AreCodesOf codes j → w ≡ replayed (supply_of_files asked.inputs asked.deals) (length codes) asked.schedule (started j)) → hosts ≡ length codes
       → packets ≡ counted (packets_of w hosts) → packets ≡ packets_for program list asked
   count_is codes asked w hosts packets is world all count =
@@ -119,7 +119,7 @@ module _ (program : NormalForm) (a : Assignment) (made : IsWellMade program) (nu
 
   -- ---- what is told
 
-  told : (asked : Asked) → AreAsked (length program.hosts) asked → IsConsistent asked.deals
+  told : (asked : RunFiles) → AreAsked (length program.hosts) asked → IsConsistent asked.deals
       → TellsUnder (length program.hosts) (program_outputs program asked.inputs) (supply_of_files asked.inputs asked.deals) (joint_of program list) asked.schedule
   told asked are consistent =
       let files : AreFiles asked.inputs asked.deals = record {
@@ -130,7 +130,7 @@ module _ (program : NormalForm) (a : Assignment) (made : IsWellMade program) (nu
       } in
       programs_tell program can.runnable.labels list (valid_for program list can) asked.inputs asked.deals files are.all asked.schedule
 
-  pub is_report : (asked : Asked) (answer : Answer) (printed : List ℕ) → AreAsked (length program.hosts) asked → IsConsistent asked.deals
+  pub is_report : (asked : RunFiles) (answer : Answer) (printed : List ℕ) → AreAsked (length program.hosts) asked → IsConsistent asked.deals
       → answer ≡ ended [] printed → printed ≡ report_for program list asked → IsReport program (program_outputs program asked.inputs) asked answer.printed
   is_report asked answer printed are consistent is report =
       record {

@@ -16,7 +16,7 @@ use Rattle.vd_cmd_choice.specs.Searching.{GaveUp, searched_by}
 use Rattle.vd_cmd_choice.specs.declared.choice.Choice.{Choice}
 use Rattle.vd_cmd_choice.proofs.Front.{none_computes}
 use Rattle.vd_cmd_files.specs.Outcomes.{ReplayOutcomes}
-use Rattle.vd_cmd_files.specs.declared.asked.Asked.{Asked}
+use Rattle.vd_cmd_files.specs.declared.run_files.RunFiles.{RunFiles}
 use Rattle.vd_cmd_files.specs.Asking.{LoadsAsked}
 use Rattle.vd_cmd_files.specs.Deals.{as_consistent}
 use Rattle.vd_cmd_replay.specs.Replaying.{ExecutesChoice, ExecutesReplay, asked_plan, choice_plan, program_plan, report_for}
@@ -24,7 +24,7 @@ use Rattle.vd_cmd_replay.specs.Telling.{TellsOf}
 
 -- ---- with the choice for a program
 
-module _ (choice : Choice) (asked : Asked) where
+module _ (choice : Choice) (asked : RunFiles) where
   abbrev found : LabelledForm
   found = labelled_form choice.program choice.labels
 
@@ -51,7 +51,7 @@ module _ (choice : Choice) (asked : Asked) where
   none_valid answer is given = which None (Ok answer) is (λ outcomes files. answers (no_list found) files (Ok answer) (none_computes found answer given))
 
 -- where no list is valid, nothing is told
-pub none_told : (program : NormalForm) (asked : Asked) (found : LabelledForm) (answer : Answer) → answer ≡ no_list found → TellsOf program asked (Ok answer)
+pub none_told : (program : NormalForm) (asked : RunFiles) (found : LabelledForm) (answer : Answer) → answer ≡ no_list found → TellsOf program asked (Ok answer)
 none_told program asked found answer is = λ e. let wrong : NoAssignment found ≡ Ended = sym (ap (λ (a : Answer). a.status) is) ∙ e in absurd (cc wrong)
 
 -- ---- from the words on
@@ -70,7 +70,7 @@ module _ (words : ReplayWords) (before now : FilesView) where
           (asks texts outcomes (asked_plan outcomes least choices (searched_by certificates choices GaveUp) words.budget program)),
     )
 
-    module _ (asked : Asked) (asks : LoadsAsked words program.hosts mid now (Ok asked)) where
+    module _ (asked : RunFiles) (asks : LoadsAsked words program.hosts mid now (Ok asked)) where
       pub search_refused : (status : Status) → Chooses program words.budget (Err status) → ExecutesReplay words before now (Err status)
       search_refused status chooses = (
         chooses.0,

@@ -35,7 +35,7 @@ use Rattle.vd_cmd_choice.specs.Programs.{program_then}
 use Rattle.vd_cmd_labels.specs.Inputs.{HoldsInputs, as_inputs, inputs_then, words_of}
 use Rattle.vd_cmd_files.specs.Outcomes.{ReplayOutcomes}
 use Rattle.vd_cmd_files.proofs.Front.{outcomes_are_single}
-use Rattle.vd_cmd_files.specs.declared.asked.Asked.{Asked}
+use Rattle.vd_cmd_files.specs.declared.run_files.RunFiles.{RunFiles}
 use Rattle.vd_cmd_files.specs.Asking.{HoldAsked, asked_of, asked_then}
 use Rattle.vd_cmd_files.specs.Deals.{HoldsDeal, as_deal, deal_of, deal_then, deals_from}
 use Rattle.vd_cmd_files.specs.Schedules.{HoldsSchedule, as_schedule, schedule_of, schedule_then}
@@ -136,10 +136,10 @@ module _ (contents : Contents) where
           (subst (λ (ds : List Deal). Ends (rest ds)) (sym (append_assoc before (deal ∷ []) deals)) then))
 
     -- all that is asked
-    pub asked_ends : (texts : TextOutcomes) (words : ReplayWords) (names : List (List ℕ)) (asked : Asked) (rest : Asked → Contents → Plan) → length names ≤ most_hosts → HoldAsked words names contents asked → Ends (rest asked)
+    pub asked_ends : (texts : TextOutcomes) (words : ReplayWords) (names : List (List ℕ)) (asked : RunFiles) (rest : RunFiles → Contents → Plan) → length names ≤ most_hosts → HoldAsked words names contents asked → Ends (rest asked)
         → Ends (asked_then texts outcomes words names rest)
     asked_ends texts words names asked rest few held then =
-        let with_links : Bool → Asked = λ m. record { inputs = asked.inputs; deals = asked.deals; schedule = asked.schedule; messages = m } in
+        let with_links : Bool → RunFiles = λ m. record { inputs = asked.inputs; deals = asked.deals; schedule = asked.schedule; messages = m } in
         let there : Ends (rest (asked_of words asked.inputs asked.deals asked.schedule)) = subst (λ (m : Bool). Ends (rest (with_links m))) held.messages then in
         let from_start : HoldLeft words.prefix (length names) few 0 asked.deals =
         λ i deal e. let same : i ≡ 0 + i = omega arith in subst (λ (n : ℕ). HoldsDeal words.prefix (length names) n contents deal) same (held.deals i deal e) in

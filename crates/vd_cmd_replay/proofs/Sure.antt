@@ -17,7 +17,7 @@ use Rattle.vd_cmd_choice.specs.Outcomes.{CertificateOutcomes}
 use Rattle.vd_cmd_choice.specs.Searching.{Searched, searched_by, sure_search}
 use Rattle.vd_cmd_choice.proofs.Front.{choice_follows, program_follows}
 use Rattle.vd_cmd_files.specs.Outcomes.{ReplayOutcomes}
-use Rattle.vd_cmd_files.specs.declared.asked.Asked.{Asked}
+use Rattle.vd_cmd_files.specs.declared.run_files.RunFiles.{RunFiles}
 use Rattle.vd_cmd_files.specs.Asking.{asked_of}
 use Rattle.vd_cmd_files.specs.Deals.{deal_of, deal_then, deals_from}
 use Rattle.vd_cmd_replay.specs.Replaying.{asked_plan, choice_plan, program_plan, replay_plan}
@@ -53,7 +53,7 @@ module _ (files : Contents) where
       file_follows name most_schedule_bytes (λ bytes. check_then (schedule_of outcomes hosts bytes) sure) (λ bytes. check_then (schedule_of outcomes hosts bytes) plan) files (λ bytes. check_follows (schedule_of outcomes hosts bytes) sure plan files each)
 
 module _ (texts : TextOutcomes) (outcomes : ReplayOutcomes) (least : LabelOutcomes) (certificates : CertificateOutcomes) (choices : ChoiceOutcomes) (searched : Searched) (words : ReplayWords) (files : Contents) where
-  asked_follows : (program : NormalForm) (asked : Asked)
+  asked_follows : (program : NormalForm) (asked : RunFiles)
       → Follows (asked_plan outcomes least choices (sure_search choices) words.budget program asked files) (asked_plan outcomes least choices (searched_by certificates choices searched) words.budget program asked files)
   asked_follows program asked = choice_follows program words.budget certificates choices (λ c. choice_plan outcomes asked (labelled_form c.program c.labels) c.assignment) files (λ l one other. refl) least searched
 

@@ -14,23 +14,23 @@ use Rattle.vd_cmd_plan.specs.declared.status.Status.{Status}
 use Rattle.vd_cmd_plan.specs.declared.status.Status.TheVariants.{Ended}
 use Rattle.vd_cmd_labels.specs.Sources.{HoldsSource}
 use Rattle.vd_cmd_choice.specs.Choice.{IsSelected}
-use Rattle.vd_cmd_files.specs.declared.asked.Asked.{Asked}
+use Rattle.vd_cmd_files.specs.declared.run_files.RunFiles.{RunFiles}
 use Rattle.vd_cmd_files.specs.Asking.{HoldAsked}
 use Rattle.vd_cmd_replay.specs.Replaying.{world_for}
 
 -- those of the world to which the schedule leads, as far as 64 bits tell it
-abbrev pub packets_for : NormalForm → List Proto → Asked → ℕ
+abbrev pub packets_for : NormalForm → List Proto → RunFiles → ℕ
 packets_for program protocols asked = counted (packets_of (world_for program protocols asked) (length program.hosts))
 
 -- the count is that of the hosts of a program at its choice of protocols
-pub record IsCount (program : NormalForm) (asked : Asked) (packets : Option ℕ) : Type 0 where
+pub record IsCount (program : NormalForm) (asked : RunFiles) (packets : Option ℕ) : Type 0 where
   pub assignment : Assignment
   pub selected : IsSelected program assignment
   pub packets_are : packets ≡ Some (packets_for program assignment.protocols asked)
 
 -- on what the files say that the words name
 pub record IsCountOf (words : ReplayWords) (program : NormalForm) (contents : Contents) (packets : Option ℕ) : Type 0 where
-  pub asked : Asked
+  pub asked : RunFiles
   pub held : HoldAsked words program.hosts contents asked
   pub count : IsCount program asked packets
 
@@ -44,7 +44,7 @@ pub record IsReplayCount (words : ReplayWords) (contents : Contents) (packets : 
 
 -- ---- where a program was run, so many packets are counted
 
-abbrev pub CountsOf : NormalForm → Asked → Option ℕ → Result Answer Status → Type 0
+abbrev pub CountsOf : NormalForm → RunFiles → Option ℕ → Result Answer Status → Type 0
 CountsOf program asked packets result = IfOk result (λ answer. answer.status ≡ Ended → IsCount program asked packets)
 
 abbrev pub CountsReplay : ReplayWords → FilesView → Option ℕ → Result Answer Status → Type 0

@@ -21,36 +21,36 @@ use Rattle.vd_cmd_choice.specs.Programs.{program_then}
 use Rattle.vd_cmd_choice.specs.Searching.{Search, SomeSearch}
 use Rattle.vd_cmd_choice.specs.Choice.{Chosen, choice_of_then, no_list}
 use Rattle.vd_cmd_files.specs.Outcomes.{ReplayOutcomes}
-use Rattle.vd_cmd_files.specs.declared.asked.Asked.{Asked}
+use Rattle.vd_cmd_files.specs.declared.run_files.RunFiles.{RunFiles}
 use Rattle.vd_cmd_files.specs.Asking.{asked_then}
 use Rattle.vd_cmd_files.specs.Deals.{as_consistent}
 
 -- ---- what it runs
 
 -- the world of all hosts of a program at an assignment of protocols, after the schedule
-abbrev pub world_for : NormalForm → List Proto → Asked → World
+abbrev pub world_for : NormalForm → List Proto → RunFiles → World
 world_for program protocols asked =
     replayed (supply_of_files asked.inputs asked.deals) (length program.hosts) asked.schedule (started (joint_of program protocols))
 
 -- its report
-abbrev pub report_for : NormalForm → List Proto → Asked → List ℕ
+abbrev pub report_for : NormalForm → List Proto → RunFiles → List ℕ
 report_for program protocols asked =
     report_of program.hosts (supply_of_files asked.inputs asked.deals) (world_for program protocols asked) asked.messages
 
 -- ---- the plan
 
 -- with the choice for a program
-abbrev pub assignment_plan : ReplayOutcomes → Asked → NormalForm → Assignment → Contents → Plan
+abbrev pub assignment_plan : ReplayOutcomes → RunFiles → NormalForm → Assignment → Contents → Plan
 assignment_plan outcomes asked program a =
     check_then (as_consistent (outcomes.judge asked.deals)) (λ consistent. answer_then (ended [] (report_for program a.protocols asked)))
 
 -- if there is one
-abbrev pub choice_plan : ReplayOutcomes → Asked → LabelledForm → Option Assignment → Contents → Plan
+abbrev pub choice_plan : ReplayOutcomes → RunFiles → LabelledForm → Option Assignment → Contents → Plan
 choice_plan outcomes asked form None = answer_then (no_list form)
 choice_plan outcomes asked form (Some a) = assignment_plan outcomes asked form.program a
 
 -- with a program, and all that it is to run on
-abbrev pub asked_plan : ReplayOutcomes → LabelOutcomes → ChoiceOutcomes → Search → (budget : ℕ) → NormalForm → Asked → Contents → Plan
+abbrev pub asked_plan : ReplayOutcomes → LabelOutcomes → ChoiceOutcomes → Search → (budget : ℕ) → NormalForm → RunFiles → Contents → Plan
 asked_plan outcomes least choices search budget program asked = choice_of_then least choices search budget program (λ c. choice_plan outcomes asked (labelled_form c.program c.labels) c.assignment)
 
 -- with a program, and with the one that is run for a source
@@ -64,7 +64,7 @@ replay_plan texts outcomes least choices search words =
 
 -- ---- what the parts of the command do, whatever functions pick outcomes
 
-abbrev pub ExecutesChoice : Asked → Chosen → Result Answer Status → Type 0
+abbrev pub ExecutesChoice : RunFiles → Chosen → Result Answer Status → Type 0
 ExecutesChoice asked c result =
     (outcomes : ReplayOutcomes) (files : FilesView)
     → Executes true (choice_plan outcomes asked (labelled_form c.program c.labels) c.assignment) files files result

@@ -26,13 +26,13 @@ use Rattle.vd_cmd_labels.specs.Sources.{HoldsSource}
 use Rattle.vd_cmd_compile.specs.Compiling.{IsStoredFor}
 use Rattle.vd_cmd_choice.specs.Choice.{IsSelected}
 use Rattle.vd_cmd_compile.specs.Selected.{AreCovered}
-use Rattle.vd_cmd_files.specs.declared.asked.Asked.{Asked}
+use Rattle.vd_cmd_files.specs.declared.run_files.RunFiles.{RunFiles}
 use Rattle.vd_cmd_files.specs.Asking.{HoldAsked}
 
 -- ---- the two halves of the headline
 
 -- What is told. Hosts of these names run this joint code, each its own part, and what is printed is the report of their world.
-pub record IsReportOf (names outputs : List (List ℕ)) (asked : Asked) (joint : Joint) (printed : List ℕ) : Type 0 where
+pub record IsReportOf (names outputs : List (List ℕ)) (asked : RunFiles) (joint : Joint) (printed : List ℕ) : Type 0 where
   -- there is a code for each host, which can be loaded and is that host's part of the joint code
   pub codes : List (List Instr)
   pub counted : length codes ≡ length names
@@ -58,7 +58,7 @@ pub record IsCodeAtChoice (program : NormalForm) (joint : Joint) : Type 0 where
   pub stored : (h : ℕ) → h < length program.hosts → IsStoredFor program assignment h (text (code_of h joint) [])
 
 -- The report of a program with these outputs.
-pub record IsReport (program : NormalForm) (outputs : List (List ℕ)) (asked : Asked) (printed : List ℕ) : Type 0 where
+pub record IsReport (program : NormalForm) (outputs : List (List ℕ)) (asked : RunFiles) (printed : List ℕ) : Type 0 where
   pub joint : Joint
   pub told : IsReportOf program.hosts outputs asked joint printed
   pub code : IsCodeAtChoice program joint
@@ -70,7 +70,7 @@ pub record IsReport (program : NormalForm) (outputs : List (List ℕ)) (asked : 
 pub record HoldReplay (words : ReplayWords) (contents : Contents) : Type 0 where
   pub source : Source
   pub is_source : HoldsSource words.source contents source
-  pub asked : Asked
+  pub asked : RunFiles
   pub are_asked : HoldAsked words (host_names source.hosts) contents asked
 
 -- The headline. What is printed is the report of a world in which each host of the source has printed a prefix of the words that the
@@ -86,7 +86,7 @@ pub record IsHeadline (words : ReplayWords) (contents : Contents) (printed : Lis
 
 -- ---- where a program was run, what is printed is such a report
 
-abbrev pub TellsOf : NormalForm → Asked → Result Answer Status → Type 0
+abbrev pub TellsOf : NormalForm → RunFiles → Result Answer Status → Type 0
 TellsOf program asked result = IfOk result (λ answer. answer.status ≡ Ended → IsReport program (program_outputs program asked.inputs) asked answer.printed)
 
 abbrev pub TellsHeadline : ReplayWords → FilesView → Result Answer Status → Type 0

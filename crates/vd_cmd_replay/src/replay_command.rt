@@ -15,7 +15,7 @@ use std::alloc::Global;
 use vd_base::{Bytes, Items};
 use vd_cmd::ReplayWords;
 use vd_cmd_choice::{Choice, choice_of, load_program, no_assignment};
-use vd_cmd_files::{Asked, expect_consistent, load_asked};
+use vd_cmd_files::{RunFiles, expect_consistent, load_run_files};
 use vd_cmd_plan::{Answer, Status};
 use vd_core::Program;
 use vd_outside::Files;
@@ -39,7 +39,7 @@ fn replay_counted(
     alloc: Global,
     program: &Program,
     assignment: &Assignment,
-    asked: Asked,
+    asked: RunFiles,
     packets: &mut Option<u64>,
 ) -> Result<Answer, Status>
     requires selected { IsSelected program.now assignment.now }
@@ -50,7 +50,7 @@ fn replay_counted(
     ensures counts { OnOk result (packets.new ≡ Some (packets_for program.now assignment.now.protocols asked)) }
 {
     let hosts = &program.form().hosts;
-    let Asked {
+    let RunFiles {
         inputs,
         deals,
         schedule,
@@ -69,7 +69,7 @@ pub fn replay_at(
     alloc: Global,
     program: &Program,
     assignment: &Assignment,
-    asked: Asked,
+    asked: RunFiles,
 ) -> Result<Answer, Status>
     requires selected { IsSelected program.now assignment.now }
     requires asked { AreAsked (length program.now.hosts) asked }
@@ -85,7 +85,7 @@ pub fn replay_at(
 fn replay_choice(
     alloc: Global,
     choice: Choice,
-    asked: Asked,
+    asked: RunFiles,
     packets: &mut Option<u64>,
 ) -> Result<Answer, Status>
     requires found { IsChoiceFor choice.program choice }
@@ -117,7 +117,7 @@ pub fn replay<F: Files>(
     ensures counts { CountsReplay words.now (F.view files.old) packets.new result }
 {
     let program = load_program(alloc, files, words.source.as_str())?;
-    let asked = load_asked(alloc, files, words, &program.form().hosts)?;
+    let asked = load_run_files(alloc, files, words, &program.form().hosts)?;
     let choice = choice_of(alloc, program, words.budget)?;
     replay_choice(alloc, choice, asked, packets)
 }

@@ -6,7 +6,7 @@ use Rattle.vd_cmd_plan.specs.Plans.{Computes, ended}
 use Rattle.vd_cmd_plan.specs.declared.answer.Answer.{Answer}
 use Rattle.vd_cmd_plan.specs.declared.status.Status.{Status}
 use Rattle.vd_cmd_plan.specs.declared.status.Status.TheVariants.{Ended, Memory, ReadFault}
-use Rattle.vd_cmd_files.specs.declared.asked.Asked.{Asked}
+use Rattle.vd_cmd_files.specs.declared.run_files.RunFiles.{RunFiles}
 use Rattle.vd_cmd_replay.specs.Replaying.{report_for}
 use Rattle.vd_cmd_trial.specs.Trial.{headed_by, trial_asked, trial_text}
 
@@ -25,8 +25,8 @@ headed_computes lines least report headed computes same =
     subst (λ (a : Answer). Computes (headed_by least (ended [] lines)) (Ok a)) (sym is) (record { proper = (tt, refl); no_fault = λ file e. cc e; settled = refl })
 
 -- of a run on what a trial asks for
-pub runs_headed : (coordinates : ℕ) (program : NormalForm) (a : Assignment) (asked : Asked) (report headed : Answer) → asked ≡ trial_asked coordinates program a.protocols
+pub runs_headed : (coordinates : ℕ) (program : NormalForm) (a : Assignment) (asked : RunFiles) (report headed : Answer) → asked ≡ trial_asked coordinates program a.protocols
     → Computes (ended [] (report_for program a.protocols asked)) (Ok report) → headed ≡ headed_by a.cost report → Computes (ended [] (trial_text coordinates program a)) (Ok headed)
 runs_headed coordinates program a asked report headed made computes same =
     headed_computes (report_for program a.protocols (trial_asked coordinates program a.protocols)) a.cost report headed
-    (subst (λ (x : Asked). Computes (ended [] (report_for program a.protocols x)) (Ok report)) made computes) same
+    (subst (λ (x : RunFiles). Computes (ended [] (report_for program a.protocols x)) (Ok report)) made computes) same

@@ -26,7 +26,7 @@ use Rattle.vd_deal_needs.proofs.Front.{small_programs_can_be_dealt, within}
 use Rattle.vd_search_stages.specs.declared.optimum.Assignment.{Assignment}
 use Rattle.vd_cmd_choice.specs.Choice.{IsSelected}
 use Rattle.vd_cmd_compile.proofs.Front.{runnable_of}
-use Rattle.vd_cmd_files.specs.declared.asked.Asked.{Asked}
+use Rattle.vd_cmd_files.specs.declared.run_files.RunFiles.{RunFiles}
 use Rattle.vd_cmd_files.specs.Asking.{AreAsked}
 use Rattle.vd_cmd_trial.specs.Trial.{Suffice, asked_by, most_inputs, trial_asked, trial_input, trial_inputs, trial_words}
 
@@ -85,7 +85,7 @@ module _ (program : NormalForm) (list : List Proto) (can : CanRunAt program list
 
   -- ---- inputs and deals together
 
-  are_files : (asked : Asked) → AreAsked (length all_needs) asked → IsConsistent asked.deals → AreFiles asked.inputs asked.deals
+  are_files : (asked : RunFiles) → AreAsked (length all_needs) asked → IsConsistent asked.deals → AreFiles asked.inputs asked.deals
   are_files asked are consistent =
       let inputs = are.inputs in
       let all = are.all in
@@ -104,21 +104,21 @@ module _ (program : NormalForm) (list : List Proto) (can : CanRunAt program list
 
 -- ---- where so much is asked for
 
-pub made_there : {E : Type 0} (coordinates : ℕ) (program : NormalForm) (list : List Proto) (needs : List HostNeeds) (result : Result Asked E) → needs ≡ needs_for program list → IfOk result (λ asked. asked ≡ asked_by needs coordinates)
+pub made_there : {E : Type 0} (coordinates : ℕ) (program : NormalForm) (list : List Proto) (needs : List HostNeeds) (result : Result RunFiles E) → needs ≡ needs_for program list → IfOk result (λ asked. asked ≡ asked_by needs coordinates)
     → IfOk result (λ asked. asked ≡ trial_asked coordinates program list)
 made_there coordinates program list needs (Ok asked) same made = made ∙ ap (λ (n : List HostNeeds). asked_by n coordinates) same
 made_there coordinates program list needs (Err e) same made = tt
 
-pub asked_there : {E : Type 0} (program : NormalForm) (list : List Proto) → CanRunAt program list → (needs : List HostNeeds) (result : Result Asked E) → needs ≡ needs_for program list → IfOk result (AreAsked (length needs))
+pub asked_there : {E : Type 0} (program : NormalForm) (list : List Proto) → CanRunAt program list → (needs : List HostNeeds) (result : Result RunFiles E) → needs ≡ needs_for program list → IfOk result (AreAsked (length needs))
     → IfOk result (AreAsked (length program.hosts))
 asked_there program list can needs (Ok asked) same are = subst (λ (n : ℕ). AreAsked n asked) (ap (λ (l : List HostNeeds). length l) same ∙ count program list can) are
 asked_there program list can needs (Err e) same are = tt
 
-pub suffice_there : {E : Type 0} (coordinates : ℕ) (program : NormalForm) (list : List Proto) → CanRunAt program list → (needs : List HostNeeds) (result : Result Asked E) → needs ≡ needs_for program list
+pub suffice_there : {E : Type 0} (coordinates : ℕ) (program : NormalForm) (list : List Proto) → CanRunAt program list → (needs : List HostNeeds) (result : Result RunFiles E) → needs ≡ needs_for program list
     → IfOk result (λ asked. asked ≡ asked_by needs coordinates) → IfOk result (AreAsked (length needs)) → IfOk result (λ asked. IsConsistent asked.deals) → IfOk result (Suffice program list)
 suffice_there coordinates program list can needs (Ok asked) same made are consistent =
     let there : asked ≡ trial_asked coordinates program list = made ∙ ap (λ (n : List HostNeeds). asked_by n coordinates) same in
     let all : AreAsked (length (needs_for program list)) asked = subst (λ (l : List HostNeeds). AreAsked (length l) asked) same are in
     subst (Suffice program list) (sym there)
-    (suffice program list can coordinates (subst (AreAsked (length (needs_for program list))) there all) (subst (λ (a : Asked). IsConsistent a.deals) there consistent))
+    (suffice program list can coordinates (subst (AreAsked (length (needs_for program list))) there all) (subst (λ (a : RunFiles). IsConsistent a.deals) there consistent))
 suffice_there coordinates program list can needs (Err e) same made are consistent = tt

@@ -12,7 +12,7 @@ use Rattle.vd_tape.proofs.Front.{all_first, count_of_deals, deals_of}
 use Rattle.vd_deal_needs.specs.declared.taking.HostNeeds.{HostNeeds}
 use Rattle.vd_deal_needs.specs.Sizes.{sizes_of}
 use Rattle.vd_base.specs.Limits.{most_hosts}
-use Rattle.vd_cmd_files.specs.declared.asked.Asked.{Asked}
+use Rattle.vd_cmd_files.specs.declared.run_files.RunFiles.{RunFiles}
 use Rattle.vd_cmd_files.specs.Asking.{AreAsked}
 use Rattle.vd_base.specs.Words.{InputsAreWords}
 use Rattle.vd_cmd_trial.specs.Trial.{asked_by, most_inputs, trial_input, trial_inputs, trial_words}
@@ -49,7 +49,7 @@ are_asked needs key few most are = record {
   deals = deals_of (sizes_of needs) key are;
 }
 
-abbrev asked_with : List (List ℕ) → List Deal → Asked
+abbrev asked_with : List (List ℕ) → List Deal → RunFiles
 asked_with inputs deals = record { inputs = inputs; deals = deals; schedule = record { entries = []; all = true }; messages = false }
 
 pub asked_again : (needs : List HostNeeds) (key : ℕ) → length needs ≤ most_hosts → most_inputs needs ≤ 2 ^ 32 → (inputs : List (List ℕ)) (deals : List Deal)

@@ -42,7 +42,7 @@ use Rattle.vd_cmd_plan.specs.declared.status.Status.{Status}
 use Rattle.vd_cmd_plan.specs.declared.status.Status.TheVariants.{Ended, NoAssignment}
 use Rattle.vd_cmd_labels.specs.Sources.{as_resolved, resolved_of}
 use Rattle.vd_cmd_choice.specs.Choice.{IsSelected, no_list}
-use Rattle.vd_cmd_files.specs.declared.asked.Asked.{Asked}
+use Rattle.vd_cmd_files.specs.declared.run_files.RunFiles.{RunFiles}
 use Rattle.vd_cmd_replay.specs.Telling.{IsReport}
 use Rattle.vd_cmd_trial.specs.Trial.{Suffice, headed_by, trial_asked}
 use Rattle.vd_cmd_trial.specs.Telling.{IsRun, TellsProgram, TellsSource, TellsTrial, ended_line, ended_lines}
@@ -62,7 +62,7 @@ ended_alike outputs s w n ended printed =
     map_alike (line_of s w) (ended_line outputs) 0 n
     (λ h below. let lt : h < n = omega (arith, below) in λ i. record { state = ended h lt i; printed = printed h lt i })
 
-module _ (program : NormalForm) (outputs : List (List ℕ)) (asked : Asked) (lines : List ℕ) (is : IsReport program outputs asked lines) where
+module _ (program : NormalForm) (outputs : List (List ℕ)) (asked : RunFiles) (lines : List ℕ) (is : IsReport program outputs asked lines) where
   abbrev supply : Supply
   supply = supply_of_files asked.inputs asked.deals
 
@@ -96,11 +96,11 @@ selected_once program made a b one other =
     at.is ∙ (λ i. assigned (problem_of program (same i)) (places i)) ∙ sym others.is
 
 module _ (coordinates : ℕ) (program : NormalForm) where
-  pub run_told : (a : Assignment) (asked : Asked) (report headed : Answer) → IsWellMade program → IsSelected program a → asked ≡ trial_asked coordinates program a.protocols → Suffice program a.protocols asked
+  pub run_told : (a : Assignment) (asked : RunFiles) (report headed : Answer) → IsWellMade program → IsSelected program a → asked ≡ trial_asked coordinates program a.protocols → Suffice program a.protocols asked
       → IsReport program (program_outputs program asked.inputs) asked report.printed → headed ≡ headed_by a.cost report → TellsProgram coordinates program (Ok headed)
   run_told a asked report headed well selected made suffice is same = λ e.
       let own = trial_asked coordinates program a.protocols in
-      let there : IsReport program (program_outputs program own.inputs) own report.printed = subst (λ (x : Asked). IsReport program (program_outputs program x.inputs) x report.printed) made is in
+      let there : IsReport program (program_outputs program own.inputs) own report.printed = subst (λ (x : RunFiles). IsReport program (program_outputs program x.inputs) x report.printed) made is in
       let one = selected_once program well a there.code.assignment selected there.code.selected in
       let enough : Suffice program there.code.assignment.protocols own = subst (λ (b : Assignment). Suffice program b.protocols own) one (subst (Suffice program a.protocols) made suffice) in
       record {

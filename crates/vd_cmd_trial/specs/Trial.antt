@@ -26,7 +26,7 @@ use Rattle.vd_cmd_labels.specs.Outcomes.{TextOutcomes, LabelOutcomes}
 use Rattle.vd_cmd_labels.specs.Sources.{source_of, resolved_of}
 use Rattle.vd_cmd_choice.specs.Searching.{Search, SomeSearch}
 use Rattle.vd_cmd_choice.specs.Choice.{choice_of_then, no_list}
-use Rattle.vd_cmd_files.specs.declared.asked.Asked.{Asked}
+use Rattle.vd_cmd_files.specs.declared.run_files.RunFiles.{RunFiles}
 use Rattle.vd_cmd_replay.specs.Replaying.{report_for}
 
 -- ---- what is run on
@@ -53,7 +53,7 @@ abbrev pub most_inputs : List HostNeeds → ℕ
 most_inputs needs = fold (λ n host. max n host.inputs) 0 needs
 
 -- as many inputs and items as the hosts take, in the deal of this key, and rounds over all hosts until none can step
-abbrev pub asked_by : List HostNeeds → (key : ℕ) → Asked
+abbrev pub asked_by : List HostNeeds → (key : ℕ) → RunFiles
 asked_by needs key = record {
   inputs = trial_inputs (length needs) (most_inputs needs);
   deals = made_deals (sizes_of needs) key;
@@ -62,11 +62,11 @@ asked_by needs key = record {
 }
 
 -- what the hosts of a program run on at an assignment of protocols: the key is the number of coordinates
-abbrev pub trial_asked : (coordinates : ℕ) → NormalForm → List Proto → Asked
+abbrev pub trial_asked : (coordinates : ℕ) → NormalForm → List Proto → RunFiles
 trial_asked coordinates program protocols = asked_by (needs_for program protocols) coordinates
 
 -- each list has as many inputs and items as are taken of it
-abbrev pub Suffice : NormalForm → List Proto → Asked → Type 0
+abbrev pub Suffice : NormalForm → List Proto → RunFiles → Type 0
 Suffice program protocols asked =
     let supply = supply_of_files asked.inputs asked.deals in
     Suffices supply (last_of supply (joint_of program protocols))

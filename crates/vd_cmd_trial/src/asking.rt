@@ -13,7 +13,7 @@ ghost use Rattle.vd_cmd_trial.specs.Trial.{Suffice, asked_by, most_inputs, trial
 
 use std::alloc::{AllocError, Global};
 use vd_base::{Inputs, Items, Words};
-use vd_cmd_files::Asked;
+use vd_cmd_files::RunFiles;
 use vd_core::Program;
 use vd_deal_needs::{HostNeeds, needs_of_program, sizes};
 use vd_report::Schedule;
@@ -62,7 +62,7 @@ fn most_inputs(needs: &[HostNeeds]) -> u32
 }
 
 /// As many inputs and items as hosts take that take so many, with a deal of this key.
-fn asked_by(alloc: Global, needs: &[HostNeeds], key: u32) -> Result<Asked, AllocError>
+fn asked_by(alloc: Global, needs: &[HostNeeds], key: u32) -> Result<RunFiles, AllocError>
     requires few { length needs.now ≤ most_hosts }
     requires inputs { most_inputs needs.now ≤ most_deal_items }
     requires counts { AreCounts (sizes_of needs.now) }
@@ -73,7 +73,7 @@ fn asked_by(alloc: Global, needs: &[HostNeeds], key: u32) -> Result<Asked, Alloc
     let counts = sizes(needs);
     let inputs = inputs_of(alloc, counts.hosts, most_inputs(needs))?;
     let deals = make(alloc, counts, u64::from(key))?;
-    Ok(Asked {
+    Ok(RunFiles {
         inputs,
         deals,
         schedule: Schedule {
@@ -91,7 +91,7 @@ pub(crate) fn asked_at(
     program: &Program,
     assignment: &Assignment,
     coordinates: u32,
-) -> Result<Asked, AllocError>
+) -> Result<RunFiles, AllocError>
     requires few { weight_sum program.now.body ≤ most_executed }
     requires selected { IsSelected program.now assignment.now }
     ensures made { IfOk result (λ asked. asked ≡ trial_asked coordinates program.now assignment.now.protocols) }

@@ -8,8 +8,8 @@ use Rattle.vd_cmd_replay.proofs.Playable.{few_names}
 use Rattle.vd_cmd_replay.proofs.Replayed.{files_refused, search_refused, source_refused, with_choice}
 use Rattle.vd_cmd_replay.proofs.replay_command.replay.Goals as goal
 
-pub load_asked-requires : goal.load_asked-requires
-load_asked-requires g c = few_names c.in_ok-program.program c.form.result.now c.form.ensures.well_made c.form.ensures.same
+pub load_run_files-requires : goal.load_run_files-requires
+load_run_files-requires g c = few_names c.in_ok-program.program c.form.result.now c.form.ensures.well_made c.form.ensures.same
 
 pub replay_choice-requires-clause-found : goal.replay_choice-requires-clause-found
 replay_choice-requires-clause-found g c =

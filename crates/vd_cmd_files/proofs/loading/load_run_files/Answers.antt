@@ -1,6 +1,6 @@
 use Rattle.std.proofs.lemmas.Result.{err_from_is_err_and}
 use Rattle.vd_cmd_files.proofs.AskedSteps.{all_held, all_read, are_asked, deals_refused, inputs_refused, schedule_refused}
-use Rattle.vd_cmd_files.proofs.loading.load_asked.Goals as goal
+use Rattle.vd_cmd_files.proofs.loading.load_run_files.Goals as goal
 
 pub returns-in_err-inputs-clause-loads : goal.returns-in_err-inputs-clause-loads
 returns-in_err-inputs-clause-loads g c = λ texts outcomes.

@@ -4,7 +4,7 @@ use vd_tape::Deals;
 
 /// What the hosts of a program are to run on: the inputs and the deal of each, and a schedule; and whether links are reported.
 #[derive(Drop)]
-pub struct Asked {
+pub struct RunFiles {
     pub inputs: Inputs,
     pub deals: Deals,
     pub schedule: Schedule,
