@@ -1,60 +1,18 @@
 -- Marks of two hosts or dealings are two, and each tells what it is of.
-use Rattle.std.proofs.Common.{arith, ◌≡◌, ◌<◌, ◌+◌, ◌/◌, ◌%◌, ◌^◌, ◌∙◌, ℕ, zero, suc, Bool, true, false, List, [], ◌∷◌, ◌++◌, take, length, Ok, Err, inr, codes, refl, sym, ap, if◌then◌else◌}
-use Rattle.std.specs.Prelude.{nat_lt}
+use Rattle.std.proofs.Common.{arith, ◌≡◌, ◌<◌, ◌+◌, ◌^◌, ◌∙◌, ℕ, zero, suc, List, [], ◌∷◌, ◌++◌, take, length, Ok, Err, inr, codes, refl, sym, ap}
 use Rattle.std.specs.Fmt.{decimal}
 use Rattle.std.specs.List.{AllByRecursion}
-use Rattle.std.proofs.lemmas.Bool.{ltb-true, ltb-false}
 use Rattle.std.proofs.lemmas.Fmt.{decimal_is_IsNumeral}
 use Rattle.std.specs.Str.Parse.{digits_value}
 use Rattle.std.proofs.lemmas.List.{append_cancel_left}
-use Rattle.vd_base_codec.specs.Digits.{IsByte, IsKey, hex_byte, hex_digit, key_text}
+use Rattle.vd_base_codec.specs.Digits.{IsByte, key_text}
 use Rattle.vd_base_codec.specs.Exact.{IsBreak, IsExact}
 use Rattle.vd_base_codec.specs.Reading.{Reading, field, field_at}
 use Rattle.vd_base_codec.proofs.Front.{AtMost, field_exact}
+use Rattle.vd_deal_versions.proofs.Front.{digits_tell}
 use Rattle.vd_hostcode.specs.declared.host_text.program.HostProgram.{HostProgram}
 use Rattle.vd_cmd_host.specs.Marking.{mark_name}
 use Rattle.vd_cmd_host.specs.Once.{IsMarkable, MarksStandByDeals, MarksTell, NamesAreApart}
-
--- ---- digits
-
-digit_same : (d e : ℕ) (s t : Bool) → nat_lt d 10 ≡ s → nat_lt e 10 ≡ t → d < 16 → e < 16 → (if s then 48 + d else 87 + d) ≡ (if t then 48 + e else 87 + e) → d ≡ e
-digit_same d e true true p q small also is = omega (arith, is)
-digit_same d e true false p q small also is = let low = ltb-true d 10 p in absurd (omega (arith, is, low))
-digit_same d e false true p q small also is = let low = ltb-true e 10 q in absurd (omega (arith, is, low))
-digit_same d e false false p q small also is = omega (arith, is)
-
-hex_same : (d e : ℕ) → d < 16 → e < 16 → hex_digit d ≡ hex_digit e → d ≡ e
-hex_same d e small also is = digit_same d e (nat_lt d 10) (nat_lt e 10) refl refl small also is
-
-byte_same : (b c : ℕ) → b < 256 → c < 256 → hex_digit (b / 16) ≡ hex_digit (c / 16) → hex_digit (b % 16) ≡ hex_digit (c % 16) → b ≡ c
-byte_same b c small also high low =
-    let first = hex_same (b / 16) (c / 16) (omega (arith, small)) (omega (arith, also)) high in
-    let second = hex_same (b % 16) (c % 16) (omega arith) (omega arith) low in
-    omega (arith, first, second)
-
-two_heads : (a b c d : ℕ) (xs ys : List ℕ) → a ∷ b ∷ xs ≡ c ∷ d ∷ ys → (a ≡ c) × (b ≡ d) × (xs ≡ ys)
-two_heads a b c d xs ys e = (cc, cc, cc)
-
-byte_text : (b : ℕ) → hex_byte b ≡ hex_digit (b / 16) ∷ hex_digit (b % 16) ∷ []
-unfolding hex_byte
-byte_text b = refl
-
--- the digits of a byte, and what stands behind those of the others
-more_text : (b : ℕ) (bs x : List ℕ) → key_text (b ∷ bs) ++ x ≡ hex_digit (b / 16) ∷ hex_digit (b % 16) ∷ (key_text bs ++ x)
-more_text b bs x = ap (λ (front : List ℕ). (front ++ key_text bs) ++ x) (byte_text b)
-
--- bytes of one length with one text are the same, whatever stands behind
-digits_tell : (a b x y : List ℕ) → length a ≡ length b → AllByRecursion IsByte a → AllByRecursion IsByte b → key_text a ++ x ≡ key_text b ++ y → (a ≡ b) × (x ≡ y)
-digits_tell [] [] x y same bytes also is = (refl, is)
-digits_tell [] (c ∷ b) x y same bytes also is = absurd (omega (arith, same))
-digits_tell (c ∷ a) [] x y same bytes also is = absurd (omega (arith, same))
-digits_tell (c ∷ a) (d ∷ b) x y same bytes also is =
-    let heads = two_heads (hex_digit (c / 16)) (hex_digit (c % 16)) (hex_digit (d / 16)) (hex_digit (d % 16)) (key_text a ++ x) (key_text b ++ y)
-    (sym (more_text c a x) ∙ is ∙ more_text d b y) in
-    let first : c ≡ d = byte_same c d bytes.0 also.0 heads.0 heads.1 in
-    let rest = digits_tell a b x y (omega (arith, same)) bytes.1 also.1 heads.2 in
-    let others : a ≡ b = rest.0 in
-    (cc, rest.1)
 
 -- ---- numbers
 

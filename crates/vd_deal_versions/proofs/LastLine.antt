@@ -65,7 +65,7 @@ more_text : (b : ℕ) (bs x : List ℕ) → key_text (b ∷ bs) ++ x ≡ hex_dig
 more_text b bs x = ap (λ (front : List ℕ). (front ++ key_text bs) ++ x) (byte_text b)
 
 -- bytes of one length with one text are the same, whatever stands behind
-digits_tell : (a b x y : List ℕ) → length a ≡ length b → AllByRecursion IsByte a → AllByRecursion IsByte b → key_text a ++ x ≡ key_text b ++ y → (a ≡ b) × (x ≡ y)
+pub digits_tell : (a b x y : List ℕ) → length a ≡ length b → AllByRecursion IsByte a → AllByRecursion IsByte b → key_text a ++ x ≡ key_text b ++ y → (a ≡ b) × (x ≡ y)
 digits_tell [] [] x y same bytes also is = (refl, is)
 digits_tell [] (c ∷ b) x y same bytes also is = absurd (omega (arith, same))
 digits_tell (c ∷ a) [] x y same bytes also is = absurd (omega (arith, same))
