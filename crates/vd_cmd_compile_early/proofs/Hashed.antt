@@ -1,48 +1,18 @@
 -- The last byte of a printed choice is behind a digit, and that of the word for the other order is not.
-use Rattle.std.proofs.Common.{◌≡◌, ℕ, ◌+◌, ◌-◌, ◌*◌, ◌<◌, ◌≤◌, ◌^◌, true, nat_le, List, [], ◌∷◌, ◌++◌, length, refl, sym, ap, ap₂, ◌∙◌, append_assoc, arith, ◌⊎◌, inl, inr, ⊎_elim}
+use Rattle.std.proofs.Common.{◌≡◌, ℕ, ◌+◌, ◌-◌, ◌<◌, ◌^◌, true, List, [], ◌∷◌, ◌++◌, length, refl, sym, ap, ap₂, ◌∙◌, append_assoc, arith, ◌⊎◌, inl, inr, ⊎_elim}
 use Rattle.std.specs.Prelude.{codes}
 use Rattle.std.specs.Fmt.{decimal}
-use Rattle.std.specs.List.{fold, list_all}
-use Rattle.std.proofs.lemmas.Bool.{and_from, and_parts, le-leb, leb-true}
+use Rattle.std.specs.List.{list_all}
+use Rattle.std.proofs.lemmas.Bool.{and_parts}
 use Rattle.std.proofs.lemmas.Fmt.{decimal_nonempty, digits_decimal}
 use Rattle.std.proofs.lemmas.List.{append_cancel_left, append_cancel_right}
-use Rattle.std.proofs.lemmas.Str.Parse.{FoldsDigits, IsDigitsTest, IsNumeralModel, numerals_by_fold}
 use Rattle.vd_base.specs.Lexical.{is_digit}
 use Rattle.vd_core.specs.declared.normal.NormalForm.{NormalForm}
 use Rattle.vd_report.specs.ChoiceLines.{slot_lines}
 use Rattle.vd_search_stages.specs.declared.optimum.Assignment.{Assignment}
 use Rattle.vd_cmd_choice.specs.Choice.{printed_at}
+use Rattle.vd_cmd_plan.proofs.Front.{AreDigits, decimal_model, digit_high}
 use Rattle.vd_cmd_compile_early.specs.Plans.{PlansTell, RunsOn}
-
--- ---- digits
-
-digit_low : (d : ℕ) → is_digit d ≡ true → 48 ≤ d
-digit_low d h = leb-true 48 d (and_parts (nat_le 48 d) (nat_le d 57) h).0
-
-digit_high : (d : ℕ) → is_digit d ≡ true → d ≤ 57
-digit_high d h = leb-true d 57 (and_parts (nat_le 48 d) (nat_le d 57) h).1
-
-digit_in : (d : ℕ) → 48 ≤ d → d ≤ 57 → is_digit d ≡ true
-digit_in d low high = and_from (nat_le 48 d) (nat_le d 57) (le-leb 48 d low) (le-leb d 57 high)
-
-abbrev AreDigits : List ℕ → Type 0
-AreDigits text = list_all is_digit text ≡ true
-
-tests : IsDigitsTest AreDigits
-tests = record {
-  empty = refl;
-  parts = λ c cs h. let p = and_parts (is_digit c) (list_all is_digit cs) h in ((digit_low c p.0, digit_high c p.0), p.1);
-  more = λ c cs range h. and_from (is_digit c) (list_all is_digit cs) (digit_in c range.0 range.1) h;
-}
-
-abbrev value_from : ℕ → List ℕ → ℕ
-value_from n digits = fold (λ m d. m * 10 + (d - 48)) n digits
-
-folds : FoldsDigits value_from
-folds = record { empty = λ n. refl; more = λ n c cs range. refl }
-
-own : IsNumeralModel AreDigits (value_from 0)
-own = numerals_by_fold AreDigits tests value_from folds
 
 -- ---- the last byte
 
@@ -99,7 +69,7 @@ line_last a x b y line e = append_cancel_right (a ++ x) (b ++ y) line (append_as
 other_order : (program : NormalForm) (a : Assignment) (text other printed : List ℕ) → a.cost < 2 ^ 64 → text ++ printed_at program a ≡ other ++ (printed ++ codes "early by rank\n") → ⊥
 other_order program a text other printed small e =
     let lines = slot_lines program.hosts 0 program.slots a.protocols in
-    not_early (text ++ (lines ++ codes "cost ")) (other ++ printed) (decimal a.cost) (decimal_nonempty a.cost small) (digits_decimal own a.cost small)
+    not_early (text ++ (lines ++ codes "cost ")) (other ++ printed) (decimal a.cost) (decimal_nonempty a.cost small) (digits_decimal decimal_model a.cost small)
     (append_cancel_right ((text ++ (lines ++ codes "cost ")) ++ decimal a.cost) ((other ++ printed) ++ codes "early by rank") (codes "\n") (sym (left lines) ∙ e ∙ right))
   where
     left : (lines : List ℕ) → text ++ (lines ++ (codes "cost " ++ (decimal a.cost ++ codes "\n"))) ≡ ((text ++ (lines ++ codes "cost ")) ++ decimal a.cost) ++ codes "\n"

@@ -8,3 +8,4 @@ pub use Rattle.vd_cmd_plan.proofs.Numbering.{numbered_more}
 pub use Rattle.vd_cmd_plan.proofs.Following.{Follows, check_follows, completes, file_follows}
 pub use Rattle.vd_cmd_plan.proofs.Finding.{loaded_is, step_keeps, step_tells}
 pub use Rattle.vd_cmd_plan.proofs.Existing.{some_programs}
+pub use Rattle.vd_cmd_plan.proofs.Numerals.{AreDigits, decimal_model, digit_high, digit_low}

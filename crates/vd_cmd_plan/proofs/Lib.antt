@@ -17,3 +17,4 @@ mod Existing
 mod Reading
 mod ShownPlain
 mod LinesRead
+mod Numerals

@@ -1,44 +1,14 @@
 -- Lines that are read as numbers are these numbers in decimal, and no others.
-use Rattle.std.proofs.Common.{◌≡◌, inl, inr, ℕ, ◌+◌, ◌-◌, ◌*◌, ◌<◌, ◌≤◌, ◌^◌, Bool, true, false, ◌&&◌, ◌||◌, not, ◌==◌, nat_le, nat_lt, if◌then◌else◌, List, [], ◌∷◌, ◌++◌, length, get_or, map, Some, None, codes, refl, sym, ap, ◌∙◌, subst, append_assoc, arith, true≢false}
+use Rattle.std.proofs.Common.{◌≡◌, inl, inr, ℕ, ◌+◌, ◌-◌, ◌<◌, ◌^◌, Bool, true, false, ◌&&◌, ◌||◌, not, ◌==◌, nat_lt, if◌then◌else◌, List, [], ◌∷◌, ◌++◌, length, get_or, map, Some, None, codes, refl, sym, ap, ◌∙◌, subst, append_assoc, arith, true≢false}
 use Rattle.std.specs.Fmt.{decimal}
-use Rattle.std.specs.List.{fold, list_all}
-use Rattle.std.proofs.lemmas.Bool.{and_from, and_parts, eq-eqb, eqb-true, le-leb, leb-true, ltb-true, or_cases}
+use Rattle.std.specs.List.{list_all}
+use Rattle.std.proofs.lemmas.Bool.{and_parts, eq-eqb, eqb-true, ltb-true, or_cases}
 use Rattle.std.proofs.lemmas.Fmt.{decimal-digits_value, decimal_injective, digits_decimal}
-use Rattle.std.proofs.lemmas.Str.Parse.{FoldsDigits, IsDigitsTest, IsNumeralModel, numerals_by_fold}
 use Rattle.vd_base.specs.Lexical.{decimal_value, is_digit, is_numeral, number_of}
 use Rattle.vd_base.specs.Words.{AreWords}
 use Rattle.vd_engine.specs.Drives.{lines}
+use Rattle.vd_cmd_plan.proofs.Front.{AreDigits, decimal_model, digit_low}
 use Rattle.vd_distributed.specs.Children.{text_of_lines}
-
--- ---- digits
-
-digit_low : (d : ℕ) → is_digit d ≡ true → 48 ≤ d
-digit_low d h = leb-true 48 d (and_parts (nat_le 48 d) (nat_le d 57) h).0
-
-digit_high : (d : ℕ) → is_digit d ≡ true → d ≤ 57
-digit_high d h = leb-true d 57 (and_parts (nat_le 48 d) (nat_le d 57) h).1
-
-digit_in : (d : ℕ) → 48 ≤ d → d ≤ 57 → is_digit d ≡ true
-digit_in d low high = and_from (nat_le 48 d) (nat_le d 57) (le-leb 48 d low) (le-leb d 57 high)
-
-abbrev AreDigits : List ℕ → Type 0
-AreDigits text = list_all is_digit text ≡ true
-
-tests : IsDigitsTest AreDigits
-tests = record {
-  empty = refl;
-  parts = λ c cs h. let p = and_parts (is_digit c) (list_all is_digit cs) h in ((digit_low c p.0, digit_high c p.0), p.1);
-  more = λ c cs range h. and_from (is_digit c) (list_all is_digit cs) (digit_in c range.0 range.1) h;
-}
-
-abbrev value_from : ℕ → List ℕ → ℕ
-value_from n digits = fold (λ m d. m * 10 + (d - 48)) n digits
-
-folds : FoldsDigits value_from
-folds = record { empty = λ n. refl; more = λ n c cs range. refl }
-
-own : IsNumeralModel AreDigits (value_from 0)
-own = numerals_by_fold AreDigits tests value_from folds
 
 -- ---- one line
 
@@ -73,7 +43,7 @@ number_text line word e =
     let small : decimal_value line < 2 ^ 32 = ltb-true (decimal_value line) (2 ^ 32) p.1 in
     let text = numeral_text line p.0 in
     let below : decimal_value line < 2 ^ 64 = omega (arith, small) in
-    (sym (decimal-digits_value own line text.digits text.some text.single below) ∙ ap decimal t.1, subst (λ (n : ℕ). n < 2 ^ 32) t.1 small)
+    (sym (decimal-digits_value decimal_model line text.digits text.some text.single below) ∙ ap decimal t.1, subst (λ (n : ℕ). n < 2 ^ 32) t.1 small)
 
 -- ---- all lines
 
@@ -114,7 +84,7 @@ no_line [] rest e = cc e
 no_line (x ∷ text) rest e = cc e
 
 decimal_digits : (word : ℕ) → word < 2 ^ 32 → AreDigits (decimal word)
-decimal_digits word small = digits_decimal own word (omega (arith, small))
+decimal_digits word small = digits_decimal decimal_model word (omega (arith, small))
 
 -- words with the same decimal lines are the same
 pub same_words : (xs ys : List ℕ) → AreWords xs → AreWords ys → lines xs ≡ lines ys → xs ≡ ys
