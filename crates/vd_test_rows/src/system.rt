@@ -1,7 +1,6 @@
-//! Prints what the objects of the system do: files that are stored and fetched, what a directory in memory holds after stores, stores of
+//! What the objects of the system do: files that are stored and fetched, what a directory in memory holds after stores, stores of
 //! which some steps are refused, streams that take a byte at a time, links over the loopback, also where a stranger comes first, and child
-//! programs that a shell plays, alone and side by side. `stdout` has what is to come.
-#![tactic(auto)]
+//! programs that a shell plays, alone and side by side.
 
 mod children;
 mod disk;
@@ -15,7 +14,7 @@ use std::alloc::Global;
 use std::io::{self, Write};
 
 /// Prints what all objects of this runtime do.
-fn print_all<W: Write>(to: &mut W, rt: &HostRuntime, alloc: Global) -> io::Result<()> {
+pub(crate) fn print<W: Write>(to: &mut W, rt: &HostRuntime, alloc: Global) -> io::Result<()> {
     files::print_files(to, rt, alloc)?;
     kept::print_kept(to, rt, alloc)?;
     disk::print_disk(to, alloc)?;
@@ -23,9 +22,4 @@ fn print_all<W: Write>(to: &mut W, rt: &HostRuntime, alloc: Global) -> io::Resul
     streams::print_streams(to, alloc)?;
     links::print_links(to, rt, alloc, rt.process())?;
     children::print_children(to, rt, alloc)
-}
-
-fn main(rt: HostRuntime) -> io::Result<()> {
-    let mut to = rt.stdout();
-    print_all(&mut to, &rt, rt.alloc())
 }

@@ -5,9 +5,9 @@ ghost use Rattle.vd_base.specs.Holders.{holders};
 ghost use Rattle.vd_duet.specs.Builder.{HasRoom, TakesAtMost};
 ghost use Rattle.vd_duet.specs.Laws.{AreKnown};
 ghost use Rattle.vd_circuit.specs.CircuitCalls.{circuit_calls};
-ghost use Rattle.vd_test_tables.specs.Serving.{ServesOfTwo};
+ghost use Rattle.vd_test_rows.specs.Serving.{ServesOfTwo};
 
-use crate::code::{first_of, print_code};
+use crate::tables::code::{first_of, print_code};
 use std::alloc::{AllocError, Global};
 use std::io::{self, Write};
 use vd_base::{HostId, Items, Op};

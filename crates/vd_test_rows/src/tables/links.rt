@@ -2,7 +2,7 @@
 
 ghost use Rattle.std.specs.Prelude.{◌≤◌, length};
 
-use crate::bytes::{counted, print_bytes};
+use crate::tables::bytes::{counted, print_bytes};
 use std::alloc::Global;
 use std::io::{self, Write};
 use vd_base::HostId;

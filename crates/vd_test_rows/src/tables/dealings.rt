@@ -1,6 +1,6 @@
 //! The keys of a dealing, at the values of a second implementation.
 
-use crate::bytes::{counted, print_bytes};
+use crate::tables::bytes::{counted, print_bytes};
 use std::io::{self, Write};
 use vd_channel_crypto::{dealing_id, items_key, link_key};
 use vd_tape::Counts;

@@ -1,6 +1,6 @@
 //! The vectors of RFC 4231, RFC 5869 and RFC 8439.
 
-use crate::bytes::{counted, print_bytes};
+use crate::tables::bytes::{counted, print_bytes};
 use std::io::{self, Write};
 use vd_channel_crypto::{derive, hmac, key_stream};
 

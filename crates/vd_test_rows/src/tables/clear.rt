@@ -6,7 +6,7 @@ ghost use Rattle.vd_duet.specs.Calls.{hosts_of, in_clear};
 ghost use Rattle.vd_base.specs.Holders.{holders};
 ghost use Rattle.vd_duet.specs.Laws.{AreKnown};
 
-use crate::code::{first_of, print_code};
+use crate::tables::code::{first_of, print_code};
 use std::alloc::{AllocError, Global};
 use std::io::{self, Write};
 use vd_base::{HostId, HostSet, Items, Op};
