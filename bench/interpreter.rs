@@ -1,4 +1,4 @@
-//! The loop of the job `world N` of `vd_test_bench`, run by an interpreter as one would write it by hand: instructions in an enum, jumps by
+//! The loop of the job `world N` of `vd_test_rows`, run by an interpreter as one would write it by hand: instructions in an enum, jumps by
 //! index, registers in a vector, no hosts and no links. It prints the same line, with its own name.
 
 use std::env;

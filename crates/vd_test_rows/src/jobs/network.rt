@@ -3,7 +3,7 @@
 //! A variable of the network is a slot, or a switch that says whether a host takes part in the branches of a guard; its values are
 //! the settings at which it may be, in order. What the network costs at least is what the choice costs.
 
-use crate::settings::Settings;
+use crate::jobs::settings::Settings;
 use std::alloc::Global;
 use std::io::Write;
 use vd_base::Items;

@@ -1,7 +1,12 @@
-//! Jobs.
+//! Timed work and comparisons, outside of what is promised.
 
-use crate::hosts::Run;
-use crate::{dealing, hosts, network, sources};
+mod dealing;
+mod hosts;
+mod network;
+mod settings;
+mod sources;
+
+use crate::jobs::hosts::Run;
 use anyhow::bail;
 use std::alloc::Global;
 use std::io::{self, Write};

@@ -6,7 +6,7 @@ use Rattle.vd_execution.specs.declared.instructions.Binary.TheVariants as binary
 use Rattle.vd_execution.specs.declared.instructions.Action.TheVariants as action
 use Rattle.vd_execution.specs.Code.{Code, Finished, Then, Send, Recv, Repeat}
 use Rattle.vd_execution.specs.Text.{register}
-use Rattle.vd_test_bench.specs.Codes.{counting, speaker, listener, CanLoad}
+use Rattle.vd_test_rows.specs.Codes.{counting, speaker, listener, CanLoad}
 
 abbrev turn : Code
 turn =

@@ -1,7 +1,7 @@
 use Rattle.std.proofs.Common.{sym, subst}
-use Rattle.vd_test_bench.specs.Codes.{CanLoad}
-use Rattle.vd_test_bench.proofs.Loads.{speaker_loads, listener_loads}
-use Rattle.vd_test_bench.proofs.hosts.talk.Goals as goal
+use Rattle.vd_test_rows.specs.Codes.{CanLoad}
+use Rattle.vd_test_rows.proofs.Loads.{speaker_loads, listener_loads}
+use Rattle.vd_test_rows.proofs.jobs.hosts.talk.Goals as goal
 
 pub two-requires-clause-first : goal.two-requires-clause-first
 two-requires-clause-first c = subst CanLoad (sym c.in_ok-speaker_code.ensures) (speaker_loads c.args.turns)

@@ -1,7 +1,7 @@
 //! Loops at two hosts.
 
 ghost use Rattle.std.specs.Prelude.{◌≡◌, ◌<◌, ◌∷◌, [], IfOk};
-ghost use Rattle.vd_test_bench.specs.Codes.{counting, speaker, listener, CanLoad};
+ghost use Rattle.vd_test_rows.specs.Codes.{counting, speaker, listener, CanLoad};
 ghost use Rattle.vd_tape.specs.Validity.{IsDeal};
 ghost use Rattle.vd_execution.specs.Text.{register};
 
