@@ -66,7 +66,7 @@ fn parent(rt: &HostRuntime) -> Option<u32> {
 }
 
 /// The folder that a variable names, where it is set to one by its whole name.
-fn folder_in(rt: &HostRuntime, variable: &str) -> Result<Option<String>, AllocError> {
+fn folder_in(rt: &HostRuntime, variable: &str) -> Result<Option<String>, VarError> {
     match env::var(rt, variable) {
         Ok(folder) => {
             if folder.as_str().starts_with('/') {
@@ -75,13 +75,13 @@ fn folder_in(rt: &HostRuntime, variable: &str) -> Result<Option<String>, AllocEr
                 Ok(None)
             }
         }
-        Err(VarError::OutOfMemory) => Err(AllocError),
+        Err(error) if error == VarError::OutOfMemory => Err(error),
         Err(_) => Ok(None),
     }
 }
 
 /// The folder in which the marks of all deals of this user stand, with its last slash: none where the system names none.
-fn marks_home(rt: &HostRuntime) -> Result<Option<String>, AllocError> {
+fn marks_home(rt: &HostRuntime) -> Result<Option<String>, VarError> {
     let alloc = rt.alloc();
     if let Some(state) = folder_in(rt, "XDG_STATE_HOME")? {
         return Ok(Some(format!(in alloc; "{state}/viaduct/used/")?));
@@ -198,8 +198,6 @@ struct Beginning {
     runtimes: Runtimes,
     process: u32,
     waits: Waits,
-    /// The folder in which the marks of all deals of this user stand.
-    home: Option<String>,
 }
 
 /// What is known before a run. An error is that there was no memory.
@@ -207,13 +205,11 @@ fn begin(rt: HostRuntime) -> io::Result<Beginning> {
     let caller = caller_of(&rt)?;
     let process = process::id(rt.process());
     let waits = Waits::new(rt.process(), parent(&rt));
-    let home = marks_home(&rt)?;
     Ok(Beginning {
         caller,
         runtimes: runtimes_of(rt)?,
         process,
         waits,
-        home,
     })
 }
 
@@ -241,10 +237,12 @@ fn finish(alloc: Global, caller: &Caller, ran: RealRan) -> ExitCode {
     exit_code(&ending.status)
 }
 
-/// Makes the real objects over these streams, runs the command line over them, and gives the code of how it ended.
+/// Makes the real objects over these streams, runs the command line over them, and gives the code of how it ended. The marks of all
+/// deals of this user stand in the folder `home`.
 fn run(
     alloc: Global,
     beginning: Beginning,
+    home: Option<String>,
     out: RealSink<Stdout>,
     err: RealSink<Stderr>,
 ) -> ExitCode {
@@ -253,7 +251,6 @@ fn run(
         runtimes,
         process,
         waits,
-        home,
     } = beginning;
     let Runtimes {
         net,
@@ -284,9 +281,12 @@ fn main(rt: HostRuntime) -> ExitCode {
     };
     let out = RealSink::new(rt.stdout());
     let mut err = RealSink::new(rt.stderr());
+    let Ok(home) = marks_home(&rt) else {
+        return end(alloc, &mut err, &Status::Memory);
+    };
     match begin(rt) {
         Ok(beginning) if is_server(&beginning.caller.words) => serve_over(alloc, streams, &mut err),
-        Ok(beginning) => run(alloc, beginning, out, err),
+        Ok(beginning) => run(alloc, beginning, home, out, err),
         Err(_) => end(alloc, &mut err, &Status::Memory),
     }
 }
