@@ -1,4 +1,4 @@
-ghost use Rattle.std.specs.Prelude.{◌≡◌, ◌<◌, ◌≤◌, ◌+◌, IfSome};
+ghost use Rattle.std.specs.Prelude.{◌≡◌, ◌<◌, ◌≤◌, ◌+◌, IfSome, [], false, ⊤};
 
 use std::alloc::Global;
 use std::io::{self, Write};
@@ -6,7 +6,7 @@ use std::net::{Net as Network, OpenListener, TcpListener};
 use std::os::unix::process::parent_id;
 use std::process::Process;
 use std::time::Clock;
-use vd_edge::{RealNet, SystemSockets, Waits};
+use vd_edge::{Duplex, RealNet, Sockets, SystemSockets, Waits};
 use vd_outside::{Link, Net};
 
 /// What is known of the process that started this one.
@@ -275,6 +275,134 @@ fn print_gone_alone<W: Write, R: Network + Clock + Clone + Drop>(
     writeln!(to, "nobody listens, {parent:?}: {came:?}")
 }
 
+/// A stream that takes all bytes, and over which the same byte comes for ever.
+#[derive(Drop)]
+struct Constant {
+    byte: u8,
+}
+
+impl Duplex for Constant {
+    ghost view = { λ stream. record { told = false; sent = []; coming = [] } };
+
+    fn take(&mut self, bytes: &[u8]) -> io::Result<usize> {
+        Ok(bytes.len())
+    }
+
+    fn give(&mut self, into: &mut [u8]) -> io::Result<usize> {
+        into.fill(self.byte);
+        Ok(into.len())
+    }
+}
+
+/// What is answered of the bytes of a stream.
+#[derive(Clone, Copy, Debug)]
+enum Coming {
+    /// That is still to be seen, and a wait ends with them.
+    Later,
+    /// They have come.
+    Here,
+    /// They do not come in time.
+    Late,
+}
+
+/// Sockets in memory, on which whoever is wanted is there, and which answer so of the bytes of each stream.
+#[derive(Drop)]
+struct Answering {
+    coming: Coming,
+    limit: Option<u32>,
+}
+
+impl Sockets for Answering {
+    type Stream = Constant;
+
+    type Listener = Constant;
+
+    ghost listens_at = { λ listener address. ⊤ };
+
+    ghost came_to = { λ stream listener. ⊤ };
+
+    ghost greets = { λ stream greeting. ⊤ };
+
+    ghost at_hand = { λ stream count. ⊤ };
+
+    ghost leads_to = { λ stream address. ⊤ };
+
+    ghost limit = { λ sockets. sockets.limit };
+
+    fn wait_at_most(&mut self, seconds: Option<u32>) {
+        self.limit = seconds;
+    }
+
+    fn listen(&self, _address: &str) -> io::Result<Constant> {
+        Ok(Constant { byte: 1 })
+    }
+
+    fn accept(&self, _listener: &mut Constant, _greeting: &[u8]) -> io::Result<Constant> {
+        Ok(Constant { byte: 2 })
+    }
+
+    fn next_comer(
+        &self,
+        _listener: &mut Constant,
+        _front: &[u8],
+        _count: u32,
+    ) -> io::Result<Option<Constant>> {
+        Ok(None)
+    }
+
+    fn has_come(&self, _stream: &Constant, _count: u32) -> Option<bool> {
+        match self.coming {
+            Coming::Later => None,
+            Coming::Here => Some(true),
+            Coming::Late => Some(false),
+        }
+    }
+
+    fn await_bytes(&self, _stream: &Constant, _count: u32) -> bool {
+        !matches!(self.coming, Coming::Late)
+    }
+
+    fn connect(&self, _address: &str) -> io::Result<Constant> {
+        Ok(Constant { byte: 3 })
+    }
+}
+
+/// Whether the bytes of a link have come, and what is received over it then.
+fn looked_at<N: Net>(net: &mut N) -> Option<(bool, Option<(u32, u8)>)> {
+    let mut link = net.connect("peer").ok()?;
+    let here = net.has_come(&mut link, 4);
+    let mut link = Some(link);
+    let front = front_of(&mut link);
+    hang_up(net, link);
+    Some((here, front))
+}
+
+/// What is received over a link after a wait for its bytes.
+fn awaited<N: Net>(net: &mut N) -> Option<(u32, u8)> {
+    let mut link = net.connect("peer").ok()?;
+    net.await_bytes(&mut link, 4);
+    let mut link = Some(link);
+    let front = front_of(&mut link);
+    hang_up(net, link);
+    front
+}
+
+/// Prints what is received over links of which so is answered.
+fn print_answered<W: Write>(to: &mut W, alloc: Global, coming: Coming) -> io::Result<()> {
+    let sockets = Answering {
+        coming,
+        limit: None,
+    };
+    let mut net = RealNet::new(sockets, alloc);
+    let looked = looked_at(&mut net);
+    let waited = awaited(&mut net);
+    writeln!(
+        to,
+        "bytes {coming:?}: {looked:?}, {waited:?}, {} faults",
+        net.faults()
+    )
+}
+
 /// Prints what passes over links of the loopback.
 pub(crate) fn print_links<W: Write, R: Network + Clock + Clone + Drop>(
     to: &mut W,
@@ -290,5 +418,9 @@ pub(crate) fn print_links<W: Write, R: Network + Clock + Clone + Drop>(
     }
     let waits = waits_of(process, Parent::Unknown);
     let came = gone_alone(alloc, rt.clone()?, waits, Some(1));
-    writeln!(to, "nobody listens within a second: {came:?}")
+    writeln!(to, "nobody listens within a second: {came:?}")?;
+    for coming in [Coming::Later, Coming::Here, Coming::Late] {
+        print_answered(to, alloc, coming)?;
+    }
+    Ok(())
 }
