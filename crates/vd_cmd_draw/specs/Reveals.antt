@@ -17,7 +17,7 @@ use Rattle.vd_draw_rows.specs.declared.row.Row.{Row}
 use Rattle.vd_draw_rows.specs.Moves.{is_told}
 use Rattle.vd_draw_rows.specs.Rows.{rows_of}
 use Rattle.vd_draw_rows.specs.Texts.{slot_name}
-use Rattle.vd_draw_rows.specs.Wire.{is_branch}
+use Rattle.vd_draw_rows.specs.Wire.{is_branch, is_seen_on_the_way}
 use Rattle.vd_cmd_draw.specs.declared.reveals_lines.Branch.{Branch}
 
 -- ---- the branches in which a row stands, the outermost first
@@ -43,8 +43,12 @@ abbrev pub index_text : Bool → List Move → List ℕ
 index_text true (m ∷ rest) = codes " index"
 index_text indexed rest = []
 
-abbrev pub role_text : Row → List Move → List ℕ
-role_text row rest = if is_branch row.kind then codes " guard" else index_text row.indexed rest
+-- a guard, which who is on the way sees too where hosts send in its branch
+abbrev pub guard_text : (seen : Bool) → List ℕ
+guard_text seen = if seen then codes " guard seen on the way" else codes " guard"
+
+abbrev pub role_text : Row → (seen : Bool) → List Move → List ℕ
+role_text row seen rest = if is_branch row.kind then guard_text seen else index_text row.indexed rest
 
 -- `LINE:COLUMN` of the statement that makes a slot
 abbrev pub slot_spot : (source : List ℕ) → List Slot → SlotId → List ℕ
@@ -58,8 +62,8 @@ abbrev pub branches_text : (source : List ℕ) → List Branch → List ℕ
 branches_text source around = flat_map (branch_text source) around
 
 -- how often at most, as what, in which branches, and for what
-abbrev pub reason_text : (inside : List ℕ) → Row → List Move → List ℕ
-reason_text inside row rest = number_field row.weight ++ role_text row rest ++ inside ++ codes ": " ++ row.text ++ codes "\n"
+abbrev pub reason_text : (inside : List ℕ) → Row → (seen : Bool) → List Move → List ℕ
+reason_text inside row seen rest = number_field row.weight ++ role_text row seen rest ++ inside ++ codes ": " ++ row.text ++ codes "\n"
 
 module _ (source : List ℕ) (p : NormalForm) (h : HostId) where
   -- `HOST LINE:COLUMN NAME FROM`
@@ -68,18 +72,19 @@ module _ (source : List ℕ) (p : NormalForm) (h : HostId) where
       host_name p.hosts h ++ codes " " ++ slot_spot source p.slots m.slot ++ codes " " ++ slot_name p.slots m.slot ++ codes " " ++ protocol_text p.hosts m.from
 
   -- a line for a move that tells the host a word
-  abbrev pub move_line : (inside : List ℕ) → Row → Move → List Move → List ℕ
-  move_line inside row m rest = if is_told h m.from m.to then word_text m ++ reason_text inside row rest else []
+  abbrev pub move_line : (inside : List ℕ) → Row → (seen : Bool) → Move → List Move → List ℕ
+  move_line inside row seen m rest = if is_told h m.from m.to then word_text m ++ reason_text inside row seen rest else []
 
-  abbrev pub moves_lines : List Branch → Row → List Move → List ℕ
-  moves_lines around row [] = []
-  moves_lines around row (m ∷ rest) = move_line (branches_text source around) row m rest ++ moves_lines around row rest
+  abbrev pub moves_lines : List Branch → Row → (seen : Bool) → List Move → List ℕ
+  moves_lines around row seen [] = []
+  moves_lines around row seen (m ∷ rest) = move_line (branches_text source around) row seen m rest ++ moves_lines around row seen rest
 
   -- of rows in order, where these branches have begun
   abbrev pub rows_lines : List Branch → List Row → List ℕ
   rows_lines begun_before [] = []
   rows_lines begun_before (row ∷ rows) =
-      moves_lines (still_open row.depth begun_before) row row.moves ++ rows_lines (still_open row.depth begun_before ++ begun row) rows
+      moves_lines (still_open row.depth begun_before) row (is_seen_on_the_way row rows) row.moves
+      ++ rows_lines (still_open row.depth begun_before ++ begun row) rows
 
 -- of these hosts, one after another
 abbrev pub reveals_text : (source : List ℕ) → NormalForm → List Proto → List HostId → List ℕ

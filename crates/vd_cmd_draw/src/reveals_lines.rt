@@ -11,7 +11,7 @@ use std::alloc::{AllocError, Global};
 use vd_base::{Bytes, HostId, Items, Proto, SlotId};
 use vd_core::{NormalForm, Program, Slot};
 use vd_diag::spot;
-use vd_draw_rows::{Kind, Move, Row, is_told, rows_of, slot_name};
+use vd_draw_rows::{Kind, Move, Row, is_seen_on_the_way, is_told, rows_of, slot_name};
 use vd_report::{name_of, push_protocol};
 
 /// A branch in which rows stand.
@@ -82,7 +82,8 @@ fn push_rows(
     for place in 0..rows.len() {
         let row = &rows[place];
         let mut around = still_open(alloc, begun.as_slice(), row.depth)?;
-        push_row(alloc, text, listing, around.as_slice(), row)?;
+        let seen = is_seen_on_the_way(row, &rows[place + 1..]);
+        push_row(alloc, text, listing, around.as_slice(), row, seen)?;
         begin(&mut around, row)?;
         begun = around;
     }
@@ -123,16 +124,17 @@ fn begin(branches: &mut Items<Branch>, row: &Row) -> Result<(), AllocError>
     }
 }
 
-/// Puts the lines of a row at the end, which stands in these branches.
+/// Puts the lines of a row at the end, which stands in these branches. If it begins a branch, this may be seen on the way.
 fn push_row(
     alloc: Global,
     text: &mut Bytes,
     listing: Listing,
     around: &[Branch],
     row: &Row,
+    seen: bool,
 ) -> Result<(), AllocError>
     ensures { OnOk result (text.new ≡ text.old ++ reveals.moves_lines listing.entry.source.now listing.entry.form.now listing.entry.host
-        around.now row.now row.now.moves) }
+        around.now row.now seen row.now.moves) }
 {
     let inside = branches_text(alloc, listing.source, around)?;
     let moves = row.moves.as_slice();
@@ -144,6 +146,7 @@ fn push_row(
             listing,
             inside.as_slice(),
             row,
+            seen,
             &moves[place],
             rest,
         )?;
@@ -183,15 +186,16 @@ fn push_move(
     listing: Listing,
     inside: &[u8],
     row: &Row,
+    seen: bool,
     one: &Move,
     rest: &[Move],
 ) -> Result<(), AllocError>
     ensures { OnOk result (text.new ≡ text.old ++ reveals.move_line listing.entry.source.now listing.entry.form.now listing.entry.host
-        inside.now row.now one.now rest.now) }
+        inside.now row.now seen one.now rest.now) }
 {
     if is_told(listing.host, one.from, one.to) {
         push_word(alloc, text, listing, one)?;
-        push_reason(text, inside, row, rest)?;
+        push_reason(text, inside, row, seen, rest)?;
     }
     Ok(())
 }
@@ -233,11 +237,17 @@ fn slot_spot(
 }
 
 /// Puts how often, as what, in which branches and for what a word is told at the end.
-fn push_reason(text: &mut Bytes, inside: &[u8], row: &Row, rest: &[Move]) -> Result<(), AllocError>
-    ensures { OnOk result (text.new ≡ text.old ++ reveals.reason_text inside.now row.now rest.now) }
+fn push_reason(
+    text: &mut Bytes,
+    inside: &[u8],
+    row: &Row,
+    seen: bool,
+    rest: &[Move],
+) -> Result<(), AllocError>
+    ensures { OnOk result (text.new ≡ text.old ++ reveals.reason_text inside.now row.now seen rest.now) }
 {
     push_number(text, row.weight)?;
-    text.extend_from_slice(role_text(row, rest))?;
+    text.extend_from_slice(role_text(row, seen, rest))?;
     text.extend_from_slice(inside)?;
     text.extend_from_slice(b": ")?;
     text.extend_from_slice(row.text.as_slice())?;
@@ -251,12 +261,23 @@ fn begins_branch(row: &Row) -> bool
     matches!(row.kind, Kind::Branch)
 }
 
+/// As what a guard is told, which who is on the way may see too.
+fn guard_text(seen: bool) -> &'static [u8]
+    ensures { result.now ≡ reveals.guard_text seen }
+{
+    if seen {
+        b" guard seen on the way"
+    } else {
+        b" guard"
+    }
+}
+
 /// As what a word is told that is moved for a row, where these words are moved after it: as a guard, as an index, or for itself.
-fn role_text(row: &Row, rest: &[Move]) -> &'static [u8]
-    ensures { result.now ≡ reveals.role_text row.now rest.now }
+fn role_text(row: &Row, seen: bool, rest: &[Move]) -> &'static [u8]
+    ensures { result.now ≡ reveals.role_text row.now seen rest.now }
 {
     if begins_branch(row) {
-        b" guard"
+        guard_text(seen)
     } else if row.indexed && !rest.is_empty() {
         b" index"
     } else {
