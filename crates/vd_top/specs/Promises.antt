@@ -76,73 +76,129 @@ pub record Does (form : Option Command) (o : Around) (status : Status) : Type 0 
 -- What holds of all words: the line of the status is said; `host`, `check` and `deal` by a key of 32 bytes alone use marks, `run` alone starts
 -- programs, and `replay` alone counts packets.
 pub record Leaves (words : List (List ℕ)) (o : Around) (status : Status) : Type 0 where
-  -- on the error stream, where it is no good end
+  -- The error stream gets the line of the status, whole unless that stream fails.
   pub says : Says (status_line status) o.err.0 o.err.1
+  -- No command but `host`, `check` and `deal` by a key of 32 bytes uses marks.
   pub marks_untouched : may_mark words ≡ false → o.marks.1 ≡ o.marks.0
+  -- No command but `run` starts a program.
   pub spawner_untouched : spawns words ≡ false → o.spawner.1 ≡ o.spawner.0
+  -- No command but `replay` counts packets.
   pub packets_untouched : counts_packets words ≡ false → o.packets.1 ≡ o.packets.0
 
 -- What `run` promises of its words, clause by clause. Each field says nothing of other commands than its own.
 pub record Keeps (words : List (List ℕ)) (o : Around) (status : Status) : Type 0 where
-  -- A command on files has run the whole of its plan; other words without a form are refused.
+  -- Each command has a plan: which files it fetches, in order, and what it answers, as a function of what they hold. With status 0 the
+  -- output has gained exactly the bytes of that answer, and the stored files are exactly those of the plan, each whole. After a
+  -- refusal the output is untouched; after a write fault it has a prefix. Every other status comes exactly if, or only if,
+  -- docs/FORMATS.md says; words that fit no command are refused.
   pub runs : RunsWords words o.files.0 o.files.1 o.out.0 o.out.1 status
-  -- `replay` has run the split programs of the source that was fetched, and each host has printed a prefix of the source's outputs to it.
+  -- With status 0 `replay` has printed the report of a world. There is one joint code, of which each host ran its part, on the inputs,
+  -- the consistent deals and the schedule of the files. Each host has printed a prefix of the source's output to it, no compared words
+  -- differ, and no packet has a wrong length. If all have ended, each has printed all of it; else some host can step, or lacks an
+  -- input or an item. The joint code is that of the program that is run for the source, at the valid list of protocols of least cost
+  -- under the least labels, the first of these in order.
   pub headline : KeepsHeadline words o.files.0 o.out.0 o.out.1 status
-  -- The deals that `excuse` stored explain the second inputs to the host: by them it sees what it saw.
+  -- With status 0 `excuse` has stored a deal under which the second inputs give the host the view that it had of the first inputs
+  -- under the first deal. Each file has the version, the name and the keys of the file that was read. It has printed what the other
+  -- host sends, which is the same in both runs. The source has two hosts and no commitment at its choice, and the host knows the same
+  -- words of both inputs.
   pub excused : KeepsExcuse words o.files.0 o.files.1 o.out.0 o.out.1 status
-  -- By `depends` the inputs of all other hosts cannot bear on the host's outputs, outside of what is declassified to it.
+  -- With status 0 `depends` has printed the hosts whose inputs are reached from the outputs to the host. Two families of inputs that
+  -- agree on theirs, and on the words that are declassified to the host, give it the same outputs. At every valid list of protocols
+  -- they bring it the same words in clear.
   pub dependence : KeepsDependence words o.files.0 o.out.0 o.out.1 status
-  -- By `influences` only the inputs of the hosts that are printed can bear on the host's outputs.
+  -- With status 0 `influences` has printed the hosts whose inputs are reached from the outputs to the host, and again those that are
+  -- reached through endorsements only. Two families of inputs that agree on the printed hosts give the host the same outputs. So do
+  -- two that agree on those that are printed once, and endorse the same words. Each of these has an integrity that acts for that of
+  -- the host.
   pub influence : KeepsInfluence words o.files.0 o.out.0 o.out.1 status
-  -- Deals of the sizes that `needs` prints suffice, and where no branch takes differently no smaller ones do.
+  -- With status 0 `needs` has printed what the hosts of a source take at its choice. Every consistent deal of the printed sizes
+  -- suffices for all inputs, under every schedule. If both blocks of each branch take equally many items, each deal that suffices has
+  -- these sizes. Of the program of a host it has printed what that host takes at most.
   pub needs : KeepsNeeds words o.files.0 o.out.0 o.out.1 status
-  -- `labels` has printed the least labelling.
+  -- With status 0 `labels` has printed a line for each slot, with its label under the least labelling: it satisfies all flow rules and
+  -- checks, and every labelling that does is above it.
   pub labelled : KeepsLabels words o.files.0 o.out.0 o.out.1 status
-  -- `certify` has printed the least cost of the valid lists of protocols, or that there are none.
+  -- With status 0 `certify` has printed a number that some valid list of protocols costs and none is below, or that no list is valid,
+  -- whoever made the certificate.
   pub certified : KeepsProof words o.files.0 o.out.0 o.out.1 status
-  -- `choose` has printed the choice of protocols, and `certify` prints the cost of it from the certificate that was stored.
+  -- With status 0 `choose` has printed the valid list of least cost, the first of these in order, with that cost. With the certificate
+  -- that it stored `certify` prints the same cost.
   pub chosen : KeepsChoice words o.files.0 o.files.1 o.out.0 o.out.1 status
-  -- `draw` has printed the drawing of this choice, and the costs of the rows add up to that of the choice.
+  -- With status 0 `draw` has printed the drawing of that list. The costs of its rows, each as often as it is done, add up to the cost
+  -- of the list.
   pub drawn : KeepsDrawing words o.files.0 o.out.0 o.out.1 status
-  -- `reveals` has printed a line for each word that comes to a host in clear at this choice.
+  -- With status 0 `reveals` has printed a line for each word that the host, or each host, gets in clear at that list and did not have,
+  -- in program order. The line has where the word is made, its name, the protocol that it comes from, and how often it comes at most.
+  -- It says whether the word is an index or a guard, whether who is on the way sees it too, in which branches it comes, and what for.
+  -- Two families of inputs that agree on a host, and bring it the same such words, bring it the same words in clear: the lines leave
+  -- nothing out.
   pub revealed : KeepsReveals words o.files.0 o.out.0 o.out.1 status
-  -- `compile` has printed this choice, and stored each host's part of the joint code at it.
+  -- With status 0 `compile` has printed that list with its cost, and stored for each host the text of its part of the joint code, with
+  -- the names of all hosts and the digest of the source and the choice.
   pub compiled : KeepsCompiled words o.files.0 o.files.1 o.out.0 o.out.1 status
-  -- Each of these files, read back, is the program of its host.
+  -- Each of these files is short enough to be read, and is read as one program: that of its host, with the code of which *headline*
+  -- speaks.
   pub stored : KeepsStored words o.files.0 o.files.1 o.out.0 o.out.1 status
-  -- With the word `early` careful exchanges of neighbours lead to what all hosts do together.
+  -- With status 0 `compile` with the word `early` has printed the same list. Careful exchanges of neighbours lead from the joint code
+  -- to another one, in which neighbouring packets from one host to another are joined, up to 16 words. The file of each host is its
+  -- part of that code. Its plan also hashes the name of this order.
   pub early : EarlyByWords words o.files.0 o.files.1 o.out.0 o.out.1 status
-  -- The file that `hasten` stored is the same program, with packets that reveal nothing sent earlier.
+  -- With status 0 `hasten` has stored the program that it read, with a code to which exchanges of independent neighbours lead. What
+  -- the host awaits, compares and prints, and each packet that may reveal something, is in its order in each block.
   pub hastened : KeepsHastened words o.files.0 o.files.1 status
-  -- `column` has printed the section of the words that the named columns of the table give.
+  -- With status 0 `column` has printed the section of its host with the rows of words that the named columns give. It is read back as
+  -- an inputs file that gives this host these words in order, and the others none.
   pub column : KeepsColumn words o.files.0 o.out.0 o.out.1 status
-  -- The files that `deal` stored are read as consistent deals, of which `replay` refuses none.
+  -- With status 0 the files that `deal` stored are the texts of the deals of as many hosts as were asked for. All identities hold, and
+  -- `replay` refuses none of them.
   pub dealt : KeepsDeal words o.files.0 o.files.1 status
-  -- So are those for a key of 32 bytes; each names one dealing, and has the keys of its host's links.
+  -- So it is with a key of 32 bytes. Each file then also names the dealing, and has the keys of the links of its host.
   pub dealt_by_key : KeepsKeyed words o.files.0 o.files.1 status
-  -- `trial` promises the same of the generated source as `replay` of a fetched one.
+  -- `trial` never refuses its own source for its text, names, kinds or limits. With status 0 it has printed the cost of the choice,
+  -- and a report of which *headline* holds, on its own inputs, its own deal and the schedule `all`. By that report every host has
+  -- ended.
   pub trial : KeepsTrial words o.files.0 o.out.0 o.out.1 status
-  -- These files `replay` accepts.
+  -- Good files give `replay` status 0 or out of memory, if the budget is enough and nothing outside fails. The budget is enough if no
+  -- more valid prefixes than it have a `low` of at most the least cost.
   pub accepted : KeepsAccepted words o.files.0 o.files.1 o.out.0 o.out.1 status
-  -- A good input ends well, or memory runs out, unless something outside fails.
+  -- If nothing outside fails, a good source with good inputs gives status 0 or out of memory. It says nothing of `deal` by a key and
+  -- of `compile` with `early`.
   pub complete : CompletesWords words o.files.0 o.files.1 o.out.0 o.out.1 status
-  -- `host` has taken the steps of the host's machine on the words that came, and has asked the net for nothing else.
+  -- `host` has read the program, the inputs and the deal of a host, or refused them by the first cause in order. Then it listened,
+  -- said so, met each peer in order and greeted it. It took the steps of its machine on the words that came, wrote each printed word
+  -- at once, and said that it ended. No wait was longer than its words allow, every fault has its cause, and each link was handed
+  -- back.
   pub host : PlaysWords words o.files.0 o.files.1 o.marks.0 o.marks.1 o.nets.0 o.nets.1 o.out.0 o.out.1 status
-  -- Where something went out behind the greetings the deal's mark was not there before, and is there now.
+  -- Suppose that the marks report what is taken, and nothing had gone out over a sealed link. If anything may have gone out over one
+  -- after the greetings, the files had a deal of version 2 whose mark was not there before. It is there now, and names the dealing,
+  -- the host and the plan.
   pub used_once : MarksWords words o.files.0 o.files.1 o.marks.0 o.marks.1 o.nets.0 o.nets.1
-  -- With a deal of version 2 nothing has gone out but greetings and records with the keys of its links.
+  -- Suppose that the net reports the links that come back, and nothing had gone out over them. With a deal of version 2 all that was
+  -- sent over each of these is a prefix of one hello and of records. The hello's nonce is made of the number of the connection and of
+  -- 32 bytes that were drawn for this run. The records have numbers from 0 on, and keys that both hellos make of the key that the deal
+  -- has for this link.
   pub sealed : SealsWords words o.files.0 o.files.1 o.marks.0 o.nets.0 o.nets.1
-  -- `check` has read the files of a host, looked for the mark of its deal, and printed what the host takes at most and what there is.
+  -- `check` reads the program, the inputs and the deal of a host, and looks for the mark of a deal of version 2. It has printed, for
+  -- each list, how many inputs or items the code takes at most and how many there are, the plan, and whether the deal was used. With a
+  -- used deal it ends with status 33, else with that of the first list that is short. If none is, no run of `host` over these files
+  -- ends for want of an input or item.
   pub checked : ChecksWords words o.files.0 o.files.1 o.marks.0 o.marks.1 o.out.0 o.out.1 status
-  -- Where the key of 32 bytes came from, and which files `deal` stored for it.
+  -- `deal` by a key of 32 bytes has read it from its file, or drawn it in one call. It has stored the files that this key makes of the
+  -- counts, or nothing: the file was shorter or could not be read, or nothing was drawn.
   pub keyed : KeysWords words o.files.0 o.files.1 o.marks.0 o.marks.1 o.out.0 o.out.1 status
-  -- Which children `run` started, with which words, what was read of each, and what was reported.
+  -- `run` has compiled as `compile` does and stored the hosts' files. It has started one child for each host in order, with the stated
+  -- words, not before the one before it listens. It has read each to its end and reported what it printed, or stopped at the first
+  -- fault, by its cause.
   pub hosts : SpawnsWords words o.files.0 o.files.1 o.out.0 o.out.1 o.spawner.0 o.spawner.1 status
-  -- A host with a deal of version 1 whose files are good and whose peers serve it ends well, unless something outside fails.
+  -- Suppose that the files of a host are good, with a deal of version 1, that each peer's greeting comes whole on a link at its
+  -- address, and that all comes that the host's code asks for. Then `host` ends with status 0 or out of memory, unless something
+  -- outside fails.
   pub served : ServesWords words o.files.0 o.files.1 o.nets.0 o.nets.1 o.out.0 o.out.1 status
-  -- The packets are as many as the hosts of `replay` sent to one another.
+  -- With status 0 `replay` has counted the packets that the hosts sent to one another in the run of which *headline* speaks.
   pub counted : KeepsCount words o.files.0 o.packets.1 status
-  -- `run` ends well where `compile` does and the children say what hosts say.
+  -- If `compile` ends well on the files, and each child says what hosts say and has status 0, `run` ends with status 0 or out of
+  -- memory, unless something outside fails.
   pub reported : ReportsWords words o.files.0 o.files.1 o.out.0 o.out.1 o.spawner.0 o.spawner.1 status
   -- How it ended is said, and what the command does not use stays as it was.
   pub leaves : Leaves words o status
@@ -150,7 +206,10 @@ pub record Keeps (words : List (List ℕ)) (o : Around) (status : Status) : Type
 -- What `start` promises. Words that ask for a text of the program's own get that text, and no file is asked for; all other
 -- words are run.
 pub record Starts (words : List (List ℕ)) (o : Around) (status : Status) : Type 0 where
+  -- The lone words `--help`, `--version`, `-h` and `-V`, and `--help` or `-h` after the name of a command, print their text and do
+  -- nothing else.
   pub own : (text : List ℕ) → own_text_of words ≡ Some text → Prints text o.out.0 o.out.1 status × (o.files.1 ≡ o.files.0)
   pub ran : own_text_of words ≡ None → Keeps words o status
+  -- No command but `host` uses the network.
   pub net_untouched : speaks words ≡ false → o.nets.1 ≡ o.nets.0
   pub leaves : Leaves words o status
