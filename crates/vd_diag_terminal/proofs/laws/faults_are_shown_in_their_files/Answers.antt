@@ -8,4 +8,5 @@ returns c = record {
   schedules = λ s i p t fault. refl;
   hosts = λ p i more fault. refl;
   within = λ s p i more fault. refl;
+  checks = λ p i d fault. refl;
 }

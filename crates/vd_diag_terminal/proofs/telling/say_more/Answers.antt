@@ -5,7 +5,7 @@ pub returns-in-File : goal.returns-in-File
 returns-in-File g c = rw c.in-File.is (refl, refl, refl)
 
 pub returns-in-Terminal : goal.returns-in-Terminal
-returns-in-Terminal g c = rw c.in-Terminal.is c.say_at_terminal.ensures
+returns-in-Terminal g c = rw c.in-Terminal.is c.say_at_terminal-in-Terminal.ensures
 
 pub returns-in-Asked : goal.returns-in-Asked
 returns-in-Asked g c = rw c.in-Asked.is c.say_at_terminal.ensures
