@@ -1,11 +1,13 @@
 -- The messages of a stream, one after the other.
-use Rattle.std.proofs.Common.{◌≡◌, ◌<◌, ◌≤◌, ℕ, ◌+◌, List, [], ◌∷◌, ◌++◌, ◌-◌, drop, length, Some, None, Option, refl, sym, ap, subst, ◌∙◌, append_assoc, arith}
+use Rattle.std.proofs.Common.{◌≡◌, ◌≢◌, ◌<◌, ◌≤◌, ℕ, ◌+◌, List, [], ◌∷◌, ◌++◌, ◌-◌, drop, length, Some, None, Option, Bor, refl, sym, ap, subst, ◌∙◌, append_assoc, arith}
 use Rattle.std.specs.Prelude.{codes}
 use Rattle.std.specs.List.{flat_map}
 use Rattle.std.proofs.lemmas.Grind.{flat_map-append}
 use Rattle.std.proofs.lemmas.List.{append-nil, length-append}
-use Rattle.vd_lsp_wire.specs.Frames.{frame, head}
-use Rattle.vd_lsp.specs.Streams.{Answers, AnswersAll, AnswersBody, IsRound, SaysDue, StopsAt}
+use Rattle.vd_lsp_wire.specs.Frames.{IsFramed, frame, head, most_body}
+use Rattle.vd_lsp_wire.specs.declared.framing.Framed.{Framed}
+use Rattle.vd_lsp_wire.specs.declared.framing.Framed.TheVariants as framed
+use Rattle.vd_lsp.specs.Streams.{Answers, AnswersAll, AnswersBody, IsRound, IsStop, SaysDue, StopsAt}
 use Rattle.vd_lsp.specs.declared.serving.Ending.{Ending}
 use Rattle.vd_lsp.specs.declared.serving.Round.{Round}
 use Rattle.vd_lsp.specs.declared.serving.Stop.{Stop}
@@ -63,6 +65,24 @@ stops_here server came left before now reached ending far stops = record {
   answers = far.answers;
   stops = stops;
 }
+
+-- ---- where no frame is next
+
+no_frame : (left : List ℕ) (first : Framed) → ((body rest : Bor (List ℕ)) → first ≢ framed.Whole body rest) → IsFramed left first
+    → (body rest : List ℕ) → length body ≤ most_body → left ≡ frame body ++ rest → ⊥
+no_frame left (framed.Whole b r) other is body rest few at = other b r refl
+no_frame left framed.Short other is body rest few at = is body few (rest, at)
+no_frame left framed.Bad other is body rest few at = is body [] few (rest, append-nil left ∙ at)
+
+pub stops_at : (server : Server) (left out : List ℕ) (ending : Ending) (first second : Framed) (s : Stop) → ((body rest : Bor (List ℕ)) → first ≢ framed.Whole body rest) → IsFramed left first
+    → IsFramed left second → IsStop second s → ending.server ≡ server → ending.left ≡ length left → StopsAt server left out out ending s
+stops_at server left out ending first (framed.Whole b r) s other one two is same count = absurd (no_frame left first other one b.now r.now two.1 two.0)
+stops_at server left out ending first framed.Short s other one two is same count = subst (StopsAt server left out out ending) (sym is) (two, refl, same, count)
+stops_at server left out ending first framed.Bad s other one two is same count = subst (StopsAt server left out out ending) (sym is) (two, refl, same, count)
+
+pub none_of : (ends : Option ℕ) → ((status : ℕ) → ends ≢ Some status) → ends ≡ None
+none_of None other = refl
+none_of (Some status) other = absurd (other status refl)
 
 -- a frame is not empty
 frame_counts : (body rest : List ℕ) → length rest < length (frame body ++ rest)
