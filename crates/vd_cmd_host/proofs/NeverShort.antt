@@ -127,7 +127,7 @@ module _ (machine : Kept) (code : Code) (starts : state_of machine ≡ at_start 
   tells before now out out_now (Untold between done failed drives writes) = λ is_short. is_short
   tells before now out out_now (Stopped cause drives) = no_drive before now out out_now cause drives
 
-  plays : {result : Result Done HostFault} (task : Task) (net net_now : NetView) (out out_now : SinkView) → Plays machine task net net_now out out_now result → IsFine result
+  plays : (task : Task) {result : Result Done HostFault} (net net_now : NetView) (out out_now : SinkView) → Plays machine task net net_now out out_now result → IsFine result
   plays task net net_now out out_now (NotListening count between cause lt listened listens same) = no_call (peer_at task (task.me.0 + count)) cause
   plays task net net_now out out_now (NotAnnounced failed announces) = λ is_short. is_short
   plays task net net_now out out_now (NotGiven count sessions met between cause meets lt gets back) = no_call (peer_at task count) cause
@@ -166,7 +166,7 @@ never_short words loaded net net_now out out_now end is_read enough runs = by ru
   where
     by : {result : Result (Unit {0}) Status} → RunsLoaded words loaded net net_now out out_now result → IsFineEnd result
     by (NotReady same same_out) = λ is_short. is_short
-    by (RanWell ready done starts can plays) = tt
+    by (RanWell ready done starts can _) = tt
     by (RanWrong ready f starts can played) = λ is_short.
         let code = code_in loaded.program.code in
         let state = starts.state code (of_can_run loaded.program is_read.code).nested in

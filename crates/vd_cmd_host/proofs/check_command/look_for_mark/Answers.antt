@@ -29,8 +29,8 @@ returns-in-Err-Failed g c =
     (c.in_ok-name.ensures {u = tt}) (rw c.in-Err-Failed.field-0-is at (c.in-Err-Failed.ensures {u = tt}))
     (ap (λ (n : List ℕ). Err (status.ReadFault n)) ((c.in_ok-deal.ensures {u = tt}) ∙ c.as_str.ensures))
 
-pub returns-in-Err-Memory : goal.returns-in-Err-Memory
-returns-in-Err-Memory g c =
+pub returns : goal.returns
+returns g c =
     looked c.args.words.now c.args.loaded.now c.args.secrets.now (g.M.Marks.view c.args.marks.now) (g.M.Marks.view c.is_taken.new.self)
     c.as_str-2.result.now c.in_ok-name.name c.as_slice.result.now (Err call_fault.Memory) _ c.requires c.as_str-2.ensures c.as_slice.ensures
     (c.in_ok-name.ensures {u = tt}) (rw c.in-Err-Memory.field-0-is at (c.in-Err-Memory.ensures {u = tt})) refl
