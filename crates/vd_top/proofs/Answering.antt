@@ -7,7 +7,7 @@ use Rattle.vd_cmd.specs.Commands.{KeepsLimits, form_of}
 use Rattle.vd_cmd.specs.declared.command.Command.{Command}
 use Rattle.vd_cmd.specs.declared.command.Command.TheVariants.{OnFiles}
 use Rattle.vd_cmd.specs.declared.command.FilesCommand.{FilesCommand}
-use Rattle.vd_cmd.specs.declared.command.FilesCommand.TheVariants.{Certify, Choose, Column, Compile, Deal, Draw, Hasten, Labels, Reveals}
+use Rattle.vd_cmd.specs.declared.command.FilesCommand.TheVariants.{Certify, Choose, Column, Compile, Deal, Draw, Labels, Reveals}
 use Rattle.vd_cmd_plan.specs.Deliver.{stored}
 use Rattle.vd_cmd_plan.specs.Plans.{answer_then}
 use Rattle.vd_cmd_plan.specs.declared.answer.Answer.{Answer}
@@ -20,9 +20,7 @@ use Rattle.vd_cmd_laws.specs.Dealt.{TellsDeal}
 use Rattle.vd_cmd_laws.proofs.Front.{deals_tell}
 use Rattle.vd_cmd_data.proofs.Front.{columns_told}
 use Rattle.vd_cmd_draw.proofs.Front.{drawings_tell, reveals_told}
-use Rattle.vd_cmd_hasten.proofs.Front.{hastens_tell}
-use Rattle.vd_cmd_hasten.specs.Telling.{TellsHastened}
-use Rattle.vd_top.specs.Answers.{Adds, AreWithinLimits, KeepsChoice, KeepsColumn, KeepsCompiled, KeepsDeal, KeepsDrawing, KeepsHastened, KeepsLabels, KeepsProof, KeepsReveals}
+use Rattle.vd_top.specs.Answers.{Adds, AreWithinLimits, KeepsChoice, KeepsColumn, KeepsCompiled, KeepsDeal, KeepsDrawing, KeepsLabels, KeepsProof, KeepsReveals}
 use Rattle.vd_top.specs.Commands.{RunsForm, RunsWords, plan_of, search_of}
 use Rattle.vd_top.proofs.Words.{are_counts, some_outcomes}
 
@@ -108,12 +106,6 @@ module _ (words : List (List ℕ)) (before now : FilesView) (out_before out_now 
         tells = subst (λ (c : Contents). TellsCompiled source prefix before.contents c plan.answer.printed) (sym (w.stores told tt))
             (compiled_tell some_outcomes.texts some_outcomes.labels some_outcomes.certificates some_outcomes.choices r.0 source prefix budget before.contents (sym (w.answered told)));
       }
-
-  pub hastened_of : KeepsHastened words before now status
-  hastened_of name out form told ends =
-      let r = ran (Hasten name out) form ends in
-      let w = r.1 some_outcomes in
-      subst (λ (c : Contents). TellsHastened name out before.contents c) (sym (w.stores told tt)) (hastens_tell some_outcomes.programs name out before.contents (sym (w.answered told)))
 
   pub column_of : KeepsColumn words before out_before out_now status
   column_of column form told out_told ends =

@@ -1,4 +1,4 @@
--- What a run of `labels`, `certify`, `choose`, `draw`, `reveals`, `compile`, `hasten`, `column` or `deal` has shown, where it ended well.
+-- What a run of `labels`, `certify`, `choose`, `draw`, `reveals`, `compile`, `column` or `deal` has shown, where it ended well.
 use Rattle.std.specs.Prelude.{◌≡◌, ℕ, IsTrue, List, ◌++◌, Some}
 use Rattle.vd_outside.specs.Files.{FilesView}
 use Rattle.vd_outside.specs.Sink.{SinkView}
@@ -8,7 +8,7 @@ use Rattle.vd_cmd.specs.declared.command.Command.{Command}
 use Rattle.vd_cmd.specs.declared.command.Command.TheVariants.{KeyDeal, OnFiles}
 use Rattle.vd_cmd.specs.declared.command.KeyDealWords.{KeyDealWords}
 use Rattle.vd_cmd.specs.declared.command.ColumnWords.{ColumnWords}
-use Rattle.vd_cmd.specs.declared.command.FilesCommand.TheVariants.{Certify, Choose, Column, Compile, Deal, Draw, Hasten, Labels, Reveals}
+use Rattle.vd_cmd.specs.declared.command.FilesCommand.TheVariants.{Certify, Choose, Column, Compile, Deal, Draw, Labels, Reveals}
 use Rattle.vd_cmd.specs.declared.command.RevealsWords.{RevealsWords}
 use Rattle.vd_cmd_plan.specs.declared.status.Status.{Status}
 use Rattle.vd_cmd_plan.specs.declared.status.Status.TheVariants.{Ended}
@@ -18,7 +18,6 @@ use Rattle.vd_cmd_laws.specs.KeyedDealt.{TellsKeyed}
 use Rattle.vd_cmd_data.specs.Columns.{TellsColumn}
 use Rattle.vd_cmd_draw.specs.Telling.{TellsDrawing}
 use Rattle.vd_cmd_draw.specs.RevealsTelling.{TellsReveals}
-use Rattle.vd_cmd_hasten.specs.Telling.{TellsHastened}
 
 -- the bytes that were added to the output are told so
 pub record Adds (Tells : List ℕ → Type 0) (out_before out_now : SinkView) : Type 0 where
@@ -65,13 +64,6 @@ abbrev pub KeepsCompiled : (words : List (List ℕ)) → FilesView → FilesView
 KeepsCompiled words before now out_before out_now status =
     (source prefix : List ℕ) (budget : ℕ) → form_of words ≡ Some (OnFiles (Compile source prefix budget)) → IsTrue before.told → IsTrue out_now.told → status ≡ Ended
     → Adds (TellsCompiled source prefix before.contents now.contents) out_before out_now
-
--- Where they are those of `hasten`, the file that it stored is the text of the program that it read with its code hastened: exchanges of
--- neighbours lead to it, and what the host tells, opens, awaits, compares and prints stands in its order.
-abbrev pub KeepsHastened : (words : List (List ℕ)) → FilesView → FilesView → Status → Type 0
-KeepsHastened words before now status =
-    (name out : List ℕ) → form_of words ≡ Some (OnFiles (Hasten name out)) → IsTrue before.told → status ≡ Ended
-    → TellsHastened name out before.contents now.contents
 
 -- Where they are those of `column`, the file is a table that gives rows of words, and it has printed the section of the host with them.
 abbrev pub KeepsColumn : (words : List (List ℕ)) → FilesView → SinkView → SinkView → Status → Type 0

@@ -10,7 +10,7 @@ use Rattle.vd_cmd.specs.declared.command.Command.{Command}
 use Rattle.vd_cmd_plan.specs.Lines.{Says, status_line}
 use Rattle.vd_cmd_plan.specs.Runs.{Prints}
 use Rattle.vd_cmd_plan.specs.declared.status.Status.{Status}
-use Rattle.vd_top.specs.Answers.{KeepsChoice, KeepsColumn, KeepsCompiled, KeepsDeal, KeepsDrawing, KeepsHastened, KeepsKeyed, KeepsLabels, KeepsProof, KeepsReveals}
+use Rattle.vd_top.specs.Answers.{KeepsChoice, KeepsColumn, KeepsCompiled, KeepsDeal, KeepsDrawing, KeepsKeyed, KeepsLabels, KeepsProof, KeepsReveals}
 use Rattle.vd_top.specs.Compiled.{KeepsStored, StoresForm}
 use Rattle.vd_top.specs.Early.{EarlyByWords, EarlyForm}
 use Rattle.vd_top.specs.Counts.{CountedForm, KeepsCount, counts_packets, counts_packets_by}
@@ -144,9 +144,6 @@ pub record Keeps (words : List (List ℕ)) (o : Around) (status : Status) : Type
   -- to another one, in which neighbouring packets from one host to another are joined, up to 16 words. The file of each host is its
   -- part of that code. Its plan also hashes the name of this order.
   pub early : EarlyByWords words o.files.0 o.files.1 o.out.0 o.out.1 status
-  -- With status 0 `hasten` has stored the program that it read, with a code to which exchanges of independent neighbours lead. What
-  -- the host awaits, compares and prints, and each packet that may reveal something, is in its order in each block.
-  pub hastened : KeepsHastened words o.files.0 o.files.1 status
   -- With status 0 `column` has printed the section of its host with the rows of words that the named columns give. It is read back as
   -- an inputs file that gives this host these words in order, and the others none.
   pub column : KeepsColumn words o.files.0 o.out.0 o.out.1 status
