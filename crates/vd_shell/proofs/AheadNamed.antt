@@ -35,7 +35,6 @@ named_ahead = record {
   compile = λ source prefix budget. inl refl;
   early = λ words. inl refl;
   needs = λ words. inl refl;
-  hasten = λ program out. inl refl;
   depends = λ source host. inl refl;
   influences = λ source host. inl refl;
   column = λ words. inl refl;

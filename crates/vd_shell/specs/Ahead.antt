@@ -5,7 +5,7 @@ use Rattle.vd_cmd.specs.declared.command.Command.{Command}
 use Rattle.vd_cmd.specs.declared.command.Command.TheVariants.{OnFiles, KeyDeal, Early, Host, Check, Run}
 use Rattle.vd_cmd.specs.declared.command.KeySource.{KeySource}
 use Rattle.vd_cmd.specs.declared.command.KeySource.TheVariants.{Drawn, InFile}
-use Rattle.vd_cmd.specs.declared.command.FilesCommand.TheVariants.{Clear, Labels, Choose, Draw, Reveals, Certify, Compile, Needs, Hasten, Deal, Replay, Excuse, Depends, Influences, Column, Gen, Trial}
+use Rattle.vd_cmd.specs.declared.command.FilesCommand.TheVariants.{Clear, Labels, Choose, Draw, Reveals, Certify, Compile, Needs, Deal, Replay, Excuse, Depends, Influences, Column, Gen, Trial}
 use Rattle.vd_cmd_plan.specs.Numbered.{file_name}
 use Rattle.vd_edge.specs.declared.kept.Wanted.{Wanted}
 
@@ -35,7 +35,6 @@ wanted_of (OnFiles (Reveals words)) = file words.source most_source_bytes ∷ []
 wanted_of (OnFiles (Certify source certificate)) = file source most_source_bytes ∷ file certificate most_certificate_bytes ∷ []
 wanted_of (OnFiles (Compile source prefix budget)) = file source most_source_bytes ∷ []
 wanted_of (OnFiles (Needs words)) = file words.file most_host_file_bytes ∷ []
-wanted_of (OnFiles (Hasten program out)) = file program most_host_file_bytes ∷ []
 wanted_of (OnFiles (Deal counts key prefix)) = []
 wanted_of (OnFiles (Replay words)) =
     (file words.source most_source_bytes ∷ file words.inputs most_inputs_bytes ∷ []) ++ deals_of words.prefix ++ file words.schedule most_schedule_bytes ∷ []

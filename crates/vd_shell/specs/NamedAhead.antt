@@ -15,7 +15,7 @@ use Rattle.vd_cmd.specs.declared.command.NeedsWords.{NeedsWords}
 use Rattle.vd_cmd.specs.declared.command.ReplayWords.{ReplayWords}
 use Rattle.vd_cmd.specs.declared.command.RevealsWords.{RevealsWords}
 use Rattle.vd_cmd.specs.declared.command.RunWords.{RunWords}
-use Rattle.vd_cmd.specs.declared.command.FilesCommand.TheVariants.{Clear, Labels, Choose, Draw, Reveals, Certify, Compile, Needs, Hasten, Replay}
+use Rattle.vd_cmd.specs.declared.command.FilesCommand.TheVariants.{Clear, Labels, Choose, Draw, Reveals, Certify, Compile, Needs, Replay}
 use Rattle.vd_cmd.specs.declared.command.FilesCommand.TheVariants.{Excuse, Depends, Influences, Column}
 use Rattle.vd_cmd_plan.specs.Numbered.{file_name}
 use Rattle.vd_edge.specs.declared.kept.Wanted.{Wanted}
@@ -46,7 +46,6 @@ pub record NamedFilesAreAhead : Type 0 where
   pub compile : (source prefix : List ℕ) (budget : ℕ) → IsAhead (OnFiles (Compile source prefix budget)) source most_source_bytes
   pub early : (words : EarlyWords) → IsAhead (Early words) words.source most_source_bytes
   pub needs : (words : NeedsWords) → IsAhead (OnFiles (Needs words)) words.file most_host_file_bytes
-  pub hasten : (program out : List ℕ) → IsAhead (OnFiles (Hasten program out)) program most_host_file_bytes
   pub depends : (source host : List ℕ) → IsAhead (OnFiles (Depends source host)) source most_source_bytes
   pub influences : (source host : List ℕ) → IsAhead (OnFiles (Influences source host)) source most_source_bytes
   pub column : (words : ColumnWords) → IsAhead (OnFiles (Column words)) words.file most_inputs_bytes
