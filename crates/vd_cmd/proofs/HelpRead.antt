@@ -25,7 +25,6 @@ help_read = record {
   early = λ a b. refl;
   needs = λ a. refl;
   needs_each = λ a. refl;
-  hasten = λ a b. refl;
   host = λ a b c d. refl;
   check = λ a b c. refl;
   certify = λ a b. refl;

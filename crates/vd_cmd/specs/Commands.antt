@@ -11,7 +11,7 @@ use Rattle.vd_cmd.specs.declared.command.Command.TheVariants.{OnFiles, KeyDeal, 
 use Rattle.vd_cmd.specs.declared.command.KeySource.{KeySource}
 use Rattle.vd_cmd.specs.declared.command.KeySource.TheVariants.{Drawn, InFile}
 use Rattle.vd_cmd.specs.declared.command.FilesCommand.{FilesCommand}
-use Rattle.vd_cmd.specs.declared.command.FilesCommand.TheVariants.{Clear, Labels, Choose, Draw, Reveals, Certify, Compile, Needs, Hasten, Deal, Replay, Excuse, Depends, Influences, Column, Gen, Trial}
+use Rattle.vd_cmd.specs.declared.command.FilesCommand.TheVariants.{Clear, Labels, Choose, Draw, Reveals, Certify, Compile, Needs, Deal, Replay, Excuse, Depends, Influences, Column, Gen, Trial}
 use Rattle.vd_cmd.specs.declared.command.CommandFault.{CommandFault}
 use Rattle.vd_cmd.specs.declared.command.CommandFault.TheVariants.{Usage}
 
@@ -150,7 +150,6 @@ fixed_form_of (word ∷ argument ∷ []) =
 fixed_form_of (word ∷ source ∷ other ∷ []) =
     if bytes_eq word (codes "clear") then Some (OnFiles (Clear source other))
     else if bytes_eq word (codes "certify") then Some (OnFiles (Certify source other))
-    else if bytes_eq word (codes "hasten") then Some (OnFiles (Hasten source other))
     else if bytes_eq word (codes "depends") then Some (OnFiles (Depends source other))
     else if bytes_eq word (codes "influences") then Some (OnFiles (Influences source other))
     else if bytes_eq word (codes "choose") then choose_of source (number_within 1 most_search_budget other)

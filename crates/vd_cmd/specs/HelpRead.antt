@@ -6,7 +6,7 @@ use Rattle.vd_cmd.specs.Commands.{form_of}
 use Rattle.vd_cmd.specs.declared.command.Command.TheVariants.{OnFiles, Early, Host, Check}
 use Rattle.vd_cmd.specs.Numbers.{number_within}
 use Rattle.vd_cmd.specs.declared.command.FilesCommand.{FilesCommand}
-use Rattle.vd_cmd.specs.declared.command.FilesCommand.TheVariants.{Clear, Labels, Choose, Draw, Reveals, Certify, Compile, Needs, Hasten, Replay, Excuse, Depends, Influences, Column}
+use Rattle.vd_cmd.specs.declared.command.FilesCommand.TheVariants.{Clear, Labels, Choose, Draw, Reveals, Certify, Compile, Needs, Replay, Excuse, Depends, Influences, Column}
 
 -- the words are read as this command over files
 abbrev pub AreRead : List (List ℕ) → FilesCommand → Type 0
@@ -31,7 +31,6 @@ pub record HelpIsRead : Type 0 where
   pub needs : (file : List ℕ) → AreRead (codes "needs" ∷ file ∷ []) (Needs (record { file = file; each = false; budget = most_search_budget }))
   pub needs_each : (file : List ℕ)
       → AreRead (codes "needs" ∷ file ∷ codes "each" ∷ []) (Needs (record { file = file; each = true; budget = most_search_budget }))
-  pub hasten : (program out : List ℕ) → AreRead (codes "hasten" ∷ program ∷ out ∷ []) (Hasten program out)
   pub host : (program inputs deal : List ℕ) (addresses : List (List ℕ)) → form_of (codes "host" ∷ program ∷ inputs ∷ deal ∷ addresses)
       ≡ Some (Host (record { program = program; inputs = inputs; deal = deal; addresses = addresses; limit = None }))
   pub check : (program inputs deal : List ℕ) → form_of (codes "check" ∷ program ∷ inputs ∷ deal ∷ [])

@@ -147,8 +147,6 @@ pub enum FilesCommand {
     Compile(Text, Text, u32),
     /// `needs FILE [each] [BUDGET]`.
     Needs(NeedsWords),
-    /// `hasten PROGRAM OUT`.
-    Hasten(Text, Text),
     /// `deal HOSTS OWN MULS ANDS PAIRS KEY PREFIX`.
     Deal(Counts, u64, Text),
     /// `replay SOURCE INPUTS PREFIX SCHEDULE [messages] [BUDGET]`.

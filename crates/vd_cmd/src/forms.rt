@@ -4,7 +4,7 @@ ghost use Rattle.std.specs.Prelude.{◌≡◌, None, Some, IfOk, IfSome, IsTrue}
 ghost use Rattle.vd_base.specs.Lexical.{is_name};
 ghost use Rattle.vd_cmd.specs.Commands.{Reads, AreWithin, IsBudget, IsPort, IsSize, choose_of, compile_of, deal_of, draw_of, early_of, excuse_of, gen_of, key_deal_of, needs_of, replay_of, reveals_of, run_of, trial_of};
 ghost use Rattle.vd_cmd.specs.declared.command.Command.TheVariants.{Check, OnFiles};
-ghost use Rattle.vd_cmd.specs.declared.command.FilesCommand.TheVariants.{Clear, Certify, Column, Hasten, Depends, Influences};
+ghost use Rattle.vd_cmd.specs.declared.command.FilesCommand.TheVariants.{Clear, Certify, Column, Depends, Influences};
 ghost use Rattle.vd_cmd.specs.declared.command.KeySource.TheVariants.{Drawn, InFile};
 
 use crate::command::{
@@ -417,14 +417,6 @@ pub(crate) fn certify_of(
 {
     let (source, certificate) = both(alloc, source, certificate)?;
     Ok(Command::OnFiles(FilesCommand::Certify(source, certificate)))
-}
-
-/// The command `hasten`.
-pub(crate) fn hasten_of(alloc: Global, program: &Text, out: &Text) -> Result<Command, CommandFault>
-    ensures { Reads (Some (OnFiles (Hasten program.now out.now))) result }
-{
-    let (program, out) = both(alloc, program, out)?;
-    Ok(Command::OnFiles(FilesCommand::Hasten(program, out)))
 }
 
 /// The command `depends`.

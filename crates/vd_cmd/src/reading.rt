@@ -7,8 +7,8 @@ ghost use Rattle.vd_cmd.specs.declared.command.KeySource.TheVariants.{InFile};
 use crate::command::{Command, CommandFault, FilesCommand, HostWords};
 use crate::forms::{
     certify_of, check_of, choose_of, clear_of, column_of, compile_of, copies, deal_drawn,
-    deal_from_file, deal_of, depends_of, draw_of, early_of, excuse_of, gen_of, hasten_of,
-    influences_of, needs_of, replay_of, reveals_all, reveals_one, run_of, trial_of,
+    deal_from_file, deal_of, depends_of, draw_of, early_of, excuse_of, gen_of, influences_of,
+    needs_of, replay_of, reveals_all, reveals_one, run_of, trial_of,
 };
 use crate::numbers::number_within;
 use std::alloc::Global;
@@ -146,8 +146,6 @@ fn three_words(
         clear_of(alloc, source, other)
     } else if word.as_str() == "certify" {
         certify_of(alloc, source, other)
-    } else if word.as_str() == "hasten" {
-        hasten_of(alloc, source, other)
     } else if word.as_str() == "depends" {
         depends_of(alloc, source, other)
     } else if word.as_str() == "influences" {

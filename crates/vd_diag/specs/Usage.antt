@@ -20,7 +20,6 @@ usage_table =
     ∷ (codes "host-within", codes "usage: viaduct host-within SECONDS PROGRAM INPUTS DEAL ADDR..\n")
     ∷ (codes "run", codes "usage: viaduct run SOURCE INPUTS PREFIX SELF PORT\n")
     ∷ (codes "excuse", codes "usage: viaduct excuse SOURCE INPUTS INPUTS2 PREFIX HOST OUT [BUDGET]\n")
-    ∷ (codes "hasten", codes "usage: viaduct hasten PROGRAM OUT\n")
     ∷ (codes "depends", codes "usage: viaduct depends SOURCE HOST\n")
     ∷ (codes "influences", codes "usage: viaduct influences SOURCE HOST\n")
     ∷ (codes "gen", codes "usage: viaduct gen N\n")

@@ -5,7 +5,7 @@ ghost use Rattle.vd_diag.specs.Usage as usage;
 
 use crate::tables::in_table;
 
-const USAGES: [(&[u8], &[u8]); 21] = [
+const USAGES: [(&[u8], &[u8]); 20] = [
     (b"clear", b"usage: viaduct clear SOURCE INPUTS\n"),
     (b"labels", b"usage: viaduct labels SOURCE\n"),
     (b"choose", b"usage: viaduct choose SOURCE [BUDGET]\n"),
@@ -46,7 +46,6 @@ const USAGES: [(&[u8], &[u8]); 21] = [
         b"excuse",
         b"usage: viaduct excuse SOURCE INPUTS INPUTS2 PREFIX HOST OUT [BUDGET]\n",
     ),
-    (b"hasten", b"usage: viaduct hasten PROGRAM OUT\n"),
     (b"depends", b"usage: viaduct depends SOURCE HOST\n"),
     (b"influences", b"usage: viaduct influences SOURCE HOST\n"),
     (b"gen", b"usage: viaduct gen N\n"),
