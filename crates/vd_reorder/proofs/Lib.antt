@@ -34,5 +34,6 @@ mod Tidy
 mod Apart
 mod Own
 mod Shown
-mod SentPast
-mod SentFirst
+mod Leaving
+mod Masked
+mod BlindPackets

@@ -3,9 +3,9 @@ use Rattle.std.proofs.Common.{◌≡◌, ℕ, nat_eq, Bool, true, false, ◌&&�
 use Rattle.vd_execution.specs.declared.instructions.Reg.{Reg}
 use Rattle.vd_execution.specs.declared.instructions.Action.{Action}
 use Rattle.vd_reorder.specs.Hastening.{Piece, Acts, Sends, Awaits}
-use Rattle.vd_reorder.specs.ReorderLawsTesting.{has, meet, is_simple, may}
+use Rattle.vd_reorder.specs.ReorderLawsTesting.{meet, may}
 use Rattle.vd_reorder.specs.Careful.{careful}
-use Rattle.vd_reorder.specs.Packets.{stays_by}
+use Rattle.vd_reorder.specs.Packets.{is_draw, stays_by}
 use Rattle.vd_reorder.proofs.InRows.{eq_turned}
 
 once : (b : Bool) → (if b then true else b) ≡ b
@@ -15,28 +15,25 @@ once false = refl
 pub same_either_way : (n m : ℕ) → nat_eq n m ≡ (if nat_eq n m then true else nat_eq m n)
 same_either_way n m = sym (ap (λ b. if nat_eq n m then true else b) (sym (eq_turned n m)) ∙ once (nat_eq n m))
 
-off : (k s : Bool) → s ≡ false → (if s then k else false) ≡ false
-off k true e = absurd cc
-off k false e = refl
+either_draws : (m d e : Bool) → (if m then (if not d then (if not e then false else true) else true) else false) ≡ ((d || e) && m)
+either_draws true true e = refl
+either_draws true false true = refl
+either_draws true false false = refl
+either_draws false true e = refl
+either_draws false false true = refl
+either_draws false false false = refl
 
--- an action that may stand before another instruction prints and compares nothing, so it need not stay
-simple_alone : (x : Piece) (a : Action) → is_simple a ≡ false → may x (Acts a) ≡ false
-simple_alone (Acts b) a e = off _ (is_simple a) e
-simple_alone (Sends p rs) a e = off _ (is_simple a) e
-simple_alone (Awaits p rs) a e = off _ (is_simple a) e
+pub careful_action : (known : List Reg) (b a : Action) → careful (stays_by known) (Acts b) (Acts a) ≡ ((is_draw b || is_draw a) && may (Acts b) (Acts a))
+careful_action known b a = either_draws (may (Acts b) (Acts a)) (is_draw b) (is_draw a)
 
-kept : (m s : Bool) → (if m then (if s then true else true) else false) ≡ m
-kept true true = refl
-kept true false = refl
-kept false s = refl
+draws : (m e : Bool) → (if m then (if not e then false else true) else false) ≡ (e && m)
+draws true true = refl
+draws true false = refl
+draws false true = refl
+draws false false = refl
 
-by_simple : (known : List Reg) (x : Piece) (a : Action) (b : Bool) → is_simple a ≡ b
-    → (if may x (Acts a) then (if stays_by known x then (if not b then false else true) else true) else false) ≡ may x (Acts a)
-by_simple known x a true e = kept (may x (Acts a)) (stays_by known x)
-by_simple known x a false e = ap (λ m. if m then (if stays_by known x then false else true) else false) (simple_alone x a e) ∙ sym (simple_alone x a e)
-
-pub careful_action : (known : List Reg) (x : Piece) (a : Action) → careful (stays_by known) x (Acts a) ≡ may x (Acts a)
-careful_action known x a = by_simple known x a (is_simple a) refl
+pub careful_receive : (known : List Reg) (q : ℕ) (qs : List Reg) (a : Action) → careful (stays_by known) (Awaits q qs) (Acts a) ≡ (is_draw a && may (Awaits q qs) (Acts a))
+careful_receive known q qs a = draws (may (Awaits q qs) (Acts a)) (is_draw a)
 
 packet : (m s k : Bool) → (if m then (if not s then (if k then false else true) else true) else false) ≡ (m && (s || not k))
 packet true true k = refl
@@ -45,8 +42,8 @@ packet true false false = refl
 packet false s k = refl
 
 pub careful_packet : (known : List Reg) (b : Action) (p : ℕ) (rs : List Reg)
-    → careful (stays_by known) (Acts b) (Sends p rs) ≡ (may (Acts b) (Sends p rs) && (is_simple b || not (meet rs known)))
-careful_packet known b p rs = packet (may (Acts b) (Sends p rs)) (is_simple b) (meet rs known)
+    → careful (stays_by known) (Acts b) (Sends p rs) ≡ (may (Acts b) (Sends p rs) && (is_draw b || not (meet rs known)))
+careful_packet known b p rs = packet (may (Acts b) (Sends p rs)) (is_draw b) (meet rs known)
 
 await : (m k : Bool) → (if (if m then false else true) then (if k then false else true) else false) ≡ (not m && not k)
 await true k = refl

@@ -1,6 +1,5 @@
 -- The pass over the text of a code.
-use Rattle.std.proofs.Common.{◌≡◌, ℕ, zero, suc, ◌+◌, Bool, true, false, ◌&&◌, if◌then◌else◌, List, [], ◌∷◌, ◌++◌, length, take, drop, Result, Ok, Err, refl, sym, ap, ap₂, ◌∙◌, subst, arith}
-use Rattle.std.specs.Prelude.{IfOk}
+use Rattle.std.proofs.Common.{◌≡◌, ℕ, zero, suc, ◌+◌, Bool, true, false, ◌&&◌, if◌then◌else◌, List, [], ◌∷◌, ◌++◌, length, take, drop, refl, sym, ap, ap₂, ◌∙◌, subst, arith}
 use Rattle.std.proofs.lemmas.List.{append-nil, length-append, take_at, drop_at}
 use Rattle.vd_base.specs.HostSets.{host}
 use Rattle.vd_execution.specs.declared.instructions.Instr.{Instr}
@@ -15,7 +14,7 @@ use Rattle.vd_reorder.specs.Hastening.{Piece, Acts, Sends, Awaits, Stretch, One,
 use Rattle.vd_reorder.specs.ReorderLawsPassing.{passes_turns, passes_all, passes_stretch, sunk, hastened}
 use Rattle.vd_reorder.specs.Careful.{careful}
 use Rattle.vd_reorder.proofs.Careful.{careful_passes}
-use Rattle.vd_reorder.specs.Packets.{opened_in, stays_by, stays_in}
+use Rattle.vd_reorder.specs.Packets.{stays_by}
 use Rattle.vd_reorder.specs.Passing.{IsHastenedText, second_passes, has_room, room_behind, span, turns_pass, all_pass, stretch_passes, sunk_text, sunk_first, hastened_by, hastened_text, window}
 
 -- ---- the text of a block
@@ -332,15 +331,11 @@ text_passed test n is c e =
     ap read same ∙ read_back (hastened test n c) (still_unbegun test n c u)
 
 -- by the careful pass
-pub hastened_is : (text : List Instr) (c : Code) → IsCodeOf text c → IsHastenedText text (hastened_by text) c
-hastened_is text c is = record { nested = text_passed (careful (stays_in text)) window text c is; careful = careful_passes (stays_in text) window c }
+pub hastened_is : (opened : List Reg) (text : List Instr) (c : Code) → IsCodeOf text c → IsHastenedText opened (hastened_by opened text) c
+hastened_is opened text c is = record {
+  nested = text_passed (careful (stays_by opened)) window text c is;
+  careful = careful_passes (stays_by opened) window c;
+}
 
-pub each_text : {E : Type 0} (code : List Instr) (result : Result (List Instr) E) → IfOk result (λ text. text ≡ hastened_by code)
-    → IfOk result (λ text. (nested : Code) → IsCodeOf code nested → IsHastenedText code text nested)
-each_text code (Ok text) same = λ nested is. subst (λ t. IsHastenedText code t nested) (sym same) (hastened_is code nested is)
-each_text code (Err fault) same = tt
-
--- what the pass makes of a list that is the code, by the registers that the code opens
-pub by_opened : (known : List Reg) (list code : List Instr) → known ≡ opened_in [] code → list ≡ code → hastened_text (careful (stays_by known)) window list ≡ hastened_by code
-by_opened known list code e f =
-    ap (hastened_text (careful (stays_by known)) window) f ∙ ap (λ k. hastened_text (careful (stays_by k)) window code) e
+pub each_text : (opened : List Reg) (code result : List Instr) → result ≡ hastened_by opened code → (nested : Code) → IsCodeOf code nested → IsHastenedText opened result nested
+each_text opened code result same nested is = subst (λ t. IsHastenedText opened t nested) (sym same) (hastened_is opened code nested is)

@@ -13,4 +13,4 @@ pub mod Short
 pub mod Window
 pub mod Turning
 pub mod ChoreographyCommutingNeighbours
-pub mod Sending
+pub mod Blind

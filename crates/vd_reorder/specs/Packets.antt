@@ -12,7 +12,7 @@ use Rattle.vd_execution.specs.declared.instructions.Instr.{Instr}
 use Rattle.vd_execution.specs.declared.instructions.Instr.TheVariants as instr
 use Rattle.vd_execution.specs.Text.{register}
 use Rattle.vd_reorder.specs.Hastening.{Piece, Acts, Sends, Awaits}
-use Rattle.vd_reorder.specs.ReorderLawsTesting.{row, has, meet, reads, writes, is_simple}
+use Rattle.vd_reorder.specs.ReorderLawsTesting.{row, has, meet, reads, writes}
 
 -- An instruction reads the register or writes to it. Of what stands before the begin or the end of a block nothing is known.
 abbrev pub touches : Reg → Instr → Bool
@@ -99,11 +99,17 @@ abbrev pub opened_in : List Instr → List Instr → List Reg
 opened_in before [] = []
 opened_in before (i ∷ is) = opened before i ++ opened_in (i ∷ before) is
 
--- What stays in its order: what is awaited, compared and printed, and each packet with a register that some packet of the code opens.
+-- an action that draws an own word
+abbrev pub is_draw : Action → Bool
+is_draw (action.Own r) = true
+is_draw a = false
+
+-- What stays in its order: what is awaited, all that is done but draws of own words, and each packet with a register that is opened.
 abbrev pub stays_by : List Reg → Piece → Bool
-stays_by known (Acts a) = not (is_simple a)
+stays_by known (Acts a) = not (is_draw a)
 stays_by known (Sends p rs) = meet rs known
 stays_by known (Awaits p rs) = true
 
+-- where packets of the code itself open registers
 abbrev pub stays_in : List Instr → Piece → Bool
 stays_in code = stays_by (opened_in [] code)

@@ -10,15 +10,15 @@ use Rattle.vd_execution.specs.Text.{IsCodeOf}
 use Rattle.vd_reorder.specs.Hastening.{Piece, Acts, Sends, Awaits}
 use Rattle.vd_reorder.specs.ReorderLawsPassing.{hastened}
 use Rattle.vd_reorder.specs.Careful.{careful, IsCarefullyHastened}
-use Rattle.vd_reorder.specs.Packets.{stays_in}
+use Rattle.vd_reorder.specs.Packets.{stays_by}
 
 -- Each instruction is passed by at most so many packets, so that links need room for no more.
 abbrev pub window : ℕ
 window = 16
 
--- the code that the careful pass makes of a host's code
-abbrev pub hastened_code : List Instr → Code → Code
-hastened_code text c = hastened (careful (stays_in text)) window c
+-- the code that the careful pass makes of a host's code, where packets with these registers are open
+abbrev pub hastened_code : List Reg → Code → Code
+hastened_code opened c = hastened (careful (stays_by opened)) window c
 
 -- A test on pieces, of two instructions. What is sent does not wait.
 abbrev pub second_passes : (Piece → Piece → Bool) → Piece → Instr → Bool
@@ -123,8 +123,8 @@ hastened_text test n [] = []
 hastened_text test n (x ∷ is) = sunk_first test n (x ∷ hastened_text test n is)
 
 -- the text that it makes of a text
-abbrev pub hastened_by : List Instr → List Instr
-hastened_by text = hastened_text (careful (stays_in text)) window text
+abbrev pub hastened_by : List Reg → List Instr → List Instr
+hastened_by opened text = hastened_text (careful (stays_by opened)) window text
 
 -- The pass over the text of a code gives the text of what the pass over the code gives.
 abbrev pub TextsArePassed : Type 0
@@ -132,9 +132,9 @@ TextsArePassed = (test : Piece → Piece → Bool) (n : ℕ) (is : List Instr) (
     → IsCodeOf (hastened_text test n is) (hastened test n c)
 
 -- The new text is that of the hastened code of the old one, in which all that is to stay stands in its order.
-pub record IsHastenedText (old new : List Instr) (c : Code) : Type 0 where
-  pub nested : IsCodeOf new (hastened_code old c)
-  pub careful : IsCarefullyHastened (stays_in old) c (hastened_code old c)
+pub record IsHastenedText (opened : List Reg) (new : List Instr) (c : Code) : Type 0 where
+  pub nested : IsCodeOf new (hastened_code opened c)
+  pub careful : IsCarefullyHastened (stays_by opened) c (hastened_code opened c)
 
 -- Where packets may go ahead of what waits for a peer, sixteen do.
 abbrev pub SixteenPacketsPass : Type 0

@@ -1,4 +1,5 @@
-//! A host's code, changed so that packets that tell nothing go out as soon as they can (fewer rounds), and all else keeps its order.
+//! A host's code, changed so that packets that tell nothing go out as soon as they can (fewer rounds), and all else but draws of own words
+//! keeps its order.
 #![tactic(auto)]
 
 mod acts;
@@ -9,7 +10,7 @@ mod registers;
 mod reorder_buffers;
 mod reorder_histories;
 mod reorder_laws;
-mod sending;
+mod reorder_secrecy;
 mod testing;
 
 pub use acts::{both_may, is_simple};
@@ -23,4 +24,4 @@ pub use reorder_laws::{
     careful_passes_keep_the_order, each_code_is_hastened, hastened_hosts_are_on_the_way,
     hastened_starts_come_to_their_end, neighbours_may_be_exchanged, passes_exchange,
 };
-pub use sending::{Spaced, send_first, sent_first_is_hastened};
+pub use reorder_secrecy::{blind_words_hide, only_blind_packets_go_ahead};

@@ -1,6 +1,6 @@
 //! The pass over a code, from its end to its front.
 
-ghost use Rattle.std.specs.Prelude.{◌≡◌, ◌++◌, ◌+◌, ◌<◌, ◌≤◌, IfOk, length, take, drop};
+ghost use Rattle.std.specs.Prelude.{◌≡◌, ◌++◌, ◌+◌, ◌<◌, ◌≤◌, length, take, drop};
 ghost use Rattle.vd_execution.specs.Code.{Code};
 ghost use Rattle.vd_execution.specs.Text.{IsCodeOf};
 ghost use Rattle.vd_reorder.specs.Careful.{careful};
@@ -8,9 +8,7 @@ ghost use Rattle.vd_reorder.specs.Packets.{stays_by};
 ghost use Rattle.vd_reorder.specs.Passing as passing;
 ghost use Rattle.vd_reorder.specs.Passing.{IsHastenedText, SixteenPacketsPass, TextsArePassed, hastened_by, hastened_text, risen, sunk_first, window};
 
-use crate::packets::opened_in;
 use crate::testing::may_pass;
-use std::alloc::{AllocError, Global};
 use vd_base::Items;
 use vd_execution::{Action, Instr, Reg};
 
@@ -168,21 +166,13 @@ fn pass(code: Items<Instr>, opened: &[Reg]) -> Items<Instr>
     Items::from_vec(list)
 }
 
-/// The text that the pass makes of a text.
-fn hasten_text(alloc: Global, code: Items<Instr>) -> Result<Items<Instr>, AllocError>
-    ensures { IfOk result (λ text. text ≡ hastened_by code) }
+/// The code, with each packet that opens nothing brought forward as far as what it needs allows, and no instruction passed by more than
+/// 16 packets. Draws of own words give way to what stands behind them. All else stays in its order.
+pub fn hasten_code(code: Items<Instr>, opened: &[Reg]) -> Items<Instr>
+    ensures text { result ≡ hastened_by opened.now code }
+    ensures code { (nested : Code) → IsCodeOf code nested → IsHastenedText opened.now result nested }
 {
-    let opened = opened_in(alloc, code.as_slice())?;
-    Ok(pass(code, opened.as_slice()))
-}
-
-/// The code, with each packet that tells nothing brought forward as far as what it needs allows, and no instruction passed by more than
-/// 16 packets. What the host tells, opens, awaits, compares and prints stays in its order.
-pub fn hasten_code(alloc: Global, code: Items<Instr>) -> Result<Items<Instr>, AllocError>
-    ensures text { IfOk result (λ text. text ≡ hastened_by code) }
-    ensures code { IfOk result (λ text. (nested : Code) → IsCodeOf code nested → IsHastenedText code text nested) }
-{
-    hasten_text(alloc, code)
+    pass(code, opened)
 }
 
 /// The pass over the text of a code gives the text of what the pass over the code gives.

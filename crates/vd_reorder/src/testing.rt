@@ -5,6 +5,7 @@ ghost use Rattle.vd_execution.specs.declared.instructions.Instr.TheVariants as i
 ghost use Rattle.vd_reorder.specs.Hastening.{Acts, Awaits, Sends};
 ghost use Rattle.vd_reorder.specs.ReorderLawsTesting as testing;
 ghost use Rattle.vd_reorder.specs.Careful.{careful};
+ghost use Rattle.vd_reorder.specs.Packets as packets;
 ghost use Rattle.vd_reorder.specs.Packets.{stays_by};
 ghost use Rattle.vd_reorder.specs.Passing.{passes};
 
@@ -52,21 +53,31 @@ fn packet_passes_action(action: &Action, peer: HostId, registers: &[Reg]) -> boo
     }
 }
 
-/// Whether an action may stand before an instruction, whatever packets open.
-#[tactic(auto, using(crate::proofs::Tests::careful_action))]
+/// Whether an action draws an own word.
+fn is_draw(action: &Action) -> bool
+    ensures { result ≡ packets.is_draw action.now }
+{
+    matches!(action, Action::Own(_))
+}
+
+/// Whether an action may stand before an instruction: one of them draws an own word.
+#[tactic(auto, using(crate::proofs::Tests::careful_action, crate::proofs::Tests::careful_receive))]
 fn action_passes(first: &Instr, action: &Action, opened: &[Reg]) -> bool
     ensures { result ≡ passes (careful (stays_by opened.now)) first.now (instr.Do action.now) }
 {
     match first {
-        Instr::Do(earlier) => action_passes_action(earlier, action),
+        Instr::Do(earlier) => {
+            (is_draw(earlier) || is_draw(action)) && action_passes_action(earlier, action)
+        }
         Instr::Recv(peer, registers) => {
-            action_passes_receive(*peer, registers.as_slice(), action)
+            is_draw(action) && action_passes_receive(*peer, registers.as_slice(), action)
         }
         _ => false,
     }
 }
 
-/// Whether a packet may go before an instruction. Where the instruction is to stay in its order, it holds no register that is opened.
+/// Whether a packet may go before an instruction. Where the instruction is to stay in its order, the packet holds no register that is
+/// opened.
 #[tactic(auto, using(crate::proofs::Tests::careful_packet, crate::proofs::Tests::careful_await))]
 fn packet_passes(first: &Instr, peer: HostId, registers: &Items<Reg>, opened: &[Reg]) -> bool
     ensures { result ≡ passes (careful (stays_by opened.now)) first.now (instr.Send peer registers.now) }
@@ -74,7 +85,7 @@ fn packet_passes(first: &Instr, peer: HostId, registers: &Items<Reg>, opened: &[
     match first {
         Instr::Do(action) => {
             packet_passes_action(action, peer, registers.as_slice())
-                && (is_simple(action) || !have_common(registers.as_slice(), opened))
+                && (is_draw(action) || !have_common(registers.as_slice(), opened))
         }
         Instr::Recv(_, awaited) => {
             !have_common(registers.as_slice(), awaited.as_slice())

@@ -16,11 +16,22 @@ use Rattle.vd_execution.specs.declared.instructions.Instr.TheVariants as instr
 use Rattle.vd_execution.specs.Registers.{Registers, put, written, applied, nth}
 use Rattle.vd_execution.specs.Text.{register}
 use Rattle.vd_execution.proofs.Front.{same_or_not, put_same, put_other, put_twice, put_commutes}
-use Rattle.vd_views.proofs.Front.{xor_back, only_difference, only_xor}
+use Rattle.std.specs.Int.Bits.{xor_assoc, xor_self, xor_zero_r}
 use Rattle.vd_reorder.specs.ReorderLawsTesting.{row, has, reads, writes}
 use Rattle.vd_reorder.specs.Packets.{touches, since, latest, is_latest, is_factor, deals, is_mask, hides, draws, is_secret, are_secret, is_nonce, leaves_blind, left_blind, is_blind}
-use Rattle.vd_cmd_hasten.specs.Blind.{Did, effect, behind, instructions, told_by, told, AreWords, Fits, filled, with_item, IsHidden, IsUnused, IsOfDigest, IsMark, AreMarked, BlindWordsHide}
-use Rattle.vd_cmd_hasten.proofs.Leaving.{AllLeave, behind_append, past_all, stays, told_past, told_append, leave_parts, all_left, neither, not_that}
+use Rattle.vd_reorder.specs.Blind.{Did, effect, behind, instructions, told_by, told, AreWords, Fits, filled, with_item, IsHidden, IsUnused, IsOfDigest, IsMark, AreMarked, BlindWordsHide}
+use Rattle.vd_reorder.proofs.Leaving.{AllLeave, behind_append, past_all, stays, told_past, told_append, leave_parts, all_left, neither, not_that}
+
+-- ---- masks
+
+xor_back : (a b : ℕ) → bit_xor (bit_xor a b) b ≡ a
+xor_back a b = xor_assoc a b b ∙ ap (λ (q : ℕ). bit_xor a q) (xor_self b) ∙ xor_zero_r a
+
+only_difference : (x a b : ℕ) → a < 2 ^ 32 → b < 2 ^ 32 → (x + (2 ^ 32 - a)) % 2 ^ 32 ≡ (x + (2 ^ 32 - b)) % 2 ^ 32 → a ≡ b
+only_difference x a b ha hb e = omega (arith, e, ha, hb)
+
+only_xor : (x a b : ℕ) → bit_xor x a ≡ bit_xor x b → a ≡ b
+only_xor x a b e = sym (xor_back a x) ∙ ap (λ (q : ℕ). bit_xor q x) (xor_comm a x ∙ e ∙ xor_comm x b) ∙ xor_back b x
 
 -- ---- the latest that touches the register
 

@@ -1,6 +1,6 @@
 //! Packets that tell nothing: what may go ahead in a hastened code. Nothing is computed here: each function's clauses are laws.
 
-ghost use Rattle.vd_cmd_hasten.specs.Blind.{BlindWordsHide, OnlyBlindPacketsGoAhead, PacketsThatGoAheadHide};
+ghost use Rattle.vd_reorder.specs.Blind.{BlindWordsHide, OnlyBlindPacketsGoAhead, PacketsThatGoAheadHide};
 
 /// A word that counts as blind hangs on one own or dealt word, which shows in nothing that was told and in no other register, and with
 /// which the word can be any word, whatever the peer was dealt; or it is a part of a digest of a nonce that nothing else has used.

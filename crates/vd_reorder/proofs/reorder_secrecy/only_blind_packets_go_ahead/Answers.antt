@@ -1,5 +1,5 @@
-use Rattle.vd_cmd_hasten.proofs.Ahead.{only_blind, packets_hide}
-use Rattle.vd_cmd_hasten.proofs.reorder_secrecy.only_blind_packets_go_ahead.Goals as goal
+use Rattle.vd_reorder.proofs.BlindPackets.{only_blind, packets_hide}
+use Rattle.vd_reorder.proofs.reorder_secrecy.only_blind_packets_go_ahead.Goals as goal
 
 pub returns-clause-blind : goal.returns-clause-blind
 returns-clause-blind c = only_blind

@@ -11,10 +11,10 @@ use Rattle.vd_execution.specs.declared.instructions.Instr.TheVariants as instr
 use Rattle.vd_reorder.specs.Hastening.{Sends}
 use Rattle.vd_reorder.specs.ReorderLawsTesting.{has, meet}
 use Rattle.vd_reorder.specs.Packets.{is_blind, opened, opened_in, stays_in}
-use Rattle.vd_reorder.proofs.Front.{has_append}
+use Rattle.vd_reorder.proofs.InRows.{has_append}
 use Rattle.vd_execution.specs.Registers.{Registers}
-use Rattle.vd_cmd_hasten.specs.Blind.{Did, instructions, AreWords, AreMarked, AllBlind, AllHide, OnlyBlindPacketsGoAhead, PacketsThatGoAheadHide}
-use Rattle.vd_cmd_hasten.proofs.Masked.{blind_hides}
+use Rattle.vd_reorder.specs.Blind.{Did, instructions, AreWords, AreMarked, AllBlind, AllHide, OnlyBlindPacketsGoAhead, PacketsThatGoAheadHide}
+use Rattle.vd_reorder.proofs.Masked.{blind_hides}
 
 or_right : (a b : Bool) → b ≡ true → (a || b) ≡ true
 or_right true b e = refl

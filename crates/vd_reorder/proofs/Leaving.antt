@@ -14,10 +14,10 @@ use Rattle.vd_execution.specs.World.{Local, done, moved_on}
 use Rattle.vd_execution.proofs.Front.{put_same, put_other, put_commutes, put_itself}
 use Rattle.vd_reorder.specs.Hastening.{Acts, Awaits, at, MayPass}
 use Rattle.vd_reorder.specs.ReorderLawsTesting.{is_simple, reads, writes, has, meet, may}
-use Rattle.vd_reorder.proofs.Front.{sound}
+use Rattle.vd_reorder.proofs.ReorderLawsTesting.{sound}
 use Rattle.vd_reorder.specs.Packets.{touches}
-use Rattle.vd_reorder.proofs.Front.{meet_turned}
-use Rattle.vd_cmd_hasten.specs.Blind.{Did, effect, behind, told_by, told, IsLeft, AllLeft}
+use Rattle.vd_reorder.proofs.InRows.{meet_turned}
+use Rattle.vd_reorder.specs.Blind.{Did, effect, behind, told_by, told, IsLeft, AllLeft}
 
 -- ---- an action
 

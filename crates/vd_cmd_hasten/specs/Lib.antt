@@ -1,5 +1,0 @@
-pub mod Programs
-pub mod Hastening
-pub mod Telling
-pub mod Blind
-pub mod Files
