@@ -10,7 +10,7 @@ use Rattle.vd_reorder.specs.ReorderLawsTesting.{is_simple, has, meet, needs, rea
 use Rattle.vd_reorder.specs.Turning.{Turn, Does, Tells}
 use Rattle.vd_choreography_reorder.specs.Testing.{Opened}
 use Rattle.vd_choreography_reorder.specs.Passing.{turn_of}
-use Rattle.vd_choreography_reorder.specs.Ranks.{Table, floor_place, top_place, telling_place, taking_place, word_column, room_column, place_of, deepest, raised, raised_if, noted, noted_if, next_round, second_half, takes_item, rank, left, mark_left, line_left}
+use Rattle.vd_choreography_reorder.specs.Ranks.{Table, floor_place, top_place, telling_place, taking_place, word_column, room_column, place_of, deepest, raised, raised_if, noted, next_round, takes_item, rank, left, mark_left, line_left}
 
 -- ---- the table grows
 
@@ -48,10 +48,6 @@ pub noted_grows : (c : ℕ) (rs : List Reg) (n : ℕ) (d : Table) → Grows d (n
 noted_grows c [] n d = stays d
 noted_grows c (r ∷ rs) n d =
     let e : Table = raised (place_of c r.0) n d in grown d e (noted c rs n e) (raised_grows (place_of c r.0) n d) (noted_grows c rs n e)
-
-noted_if_grows : (b : Bool) (c : ℕ) (rs : List Reg) (n : ℕ) (d : Table) → Grows d (noted_if b c rs n d)
-noted_if_grows true c rs n d = noted_grows c rs n d
-noted_if_grows false c rs n d = stays d
 
 -- ---- some registers have at least a rank
 
@@ -191,11 +187,8 @@ module _ (opens : Bool) (a : ℕ) (said : List Reg) (b : ℕ) (heard : List Reg)
   not_before : n ≤ later
   not_before = omega arith
 
-  abbrev used : Table
-  used = noted_if (not opens) (word_column a) said (second_half n) d
-
   abbrev said_left : Table
-  said_left = noted (room_column a) said n used
+  said_left = noted (room_column a) said n d
 
   abbrev pub sent : Table
   sent = raised_if opens (telling_place a) n said_left
@@ -228,15 +221,13 @@ module _ (opens : Bool) (a : ℕ) (said : List Reg) (b : ℕ) (heard : List Reg)
   said_left_grows = grown said_left sent packet_after (raised_if_grows opens (telling_place a) n said_left) sent_grows
 
   pub packet_grows : Grows d packet_after
-  packet_grows =
-      grown d used packet_after (noted_if_grows (not opens) (word_column a) said (second_half n) d)
-      (grown used said_left packet_after (noted_grows (room_column a) said n used) said_left_grows)
+  packet_grows = grown d said_left packet_after (noted_grows (room_column a) said n d) said_left_grows
 
   pub packet_leaves : PacketLeaves opens a said b heard n packet_after
   packet_leaves = record {
     words = have_grown (word_column b) heard n later words_left packet_after not_before words_left_grows (noted_have (word_column b) heard later sent);
     filled = have_grown (room_column b) heard n later filled_left packet_after not_before filled_left_grows (noted_have (room_column b) heard later words_left);
-    read = have_grown (room_column a) said n n said_left packet_after (same_le n) said_left_grows (noted_have (room_column a) said n used);
+    read = have_grown (room_column a) said n n said_left packet_after (same_le n) said_left_grows (noted_have (room_column a) said n d);
     telling = λ is. still n (sent (telling_place a)) (packet_after (telling_place a)) (raised_if_at opens (telling_place a) n said_left is) (sent_grows (telling_place a));
     awaiting = still n later (packet_after (telling_place b)) not_before
         (still later (awaited (telling_place b)) (packet_after (telling_place b)) (raised_at (telling_place b) later filled_left) (awaited_grows (telling_place b)));

@@ -25,4 +25,3 @@ mod LaidOut
 mod Tidy
 mod Following
 mod Rounds
-mod Counting

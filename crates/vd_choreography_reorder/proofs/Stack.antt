@@ -8,9 +8,6 @@ use Rattle.vd_choreography_reorder.specs.Joining.{line_before, joined_lines}
 pub on_top : (old : List Line) (l : Line) → reverse (old ++ l ∷ []) ≡ l ∷ reverse old
 on_top old l = reverse-append old (l ∷ [])
 
-pub number_on_top : (old : List ℕ) (n : ℕ) → reverse (old ++ n ∷ []) ≡ n ∷ reverse old
-number_on_top old n = reverse-append old (n ∷ [])
-
 module _ (most : ℕ) where
   -- lines before those that were joined
   abbrev pub onto : List Line → List Line → List Line

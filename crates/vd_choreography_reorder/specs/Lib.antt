@@ -10,4 +10,3 @@ pub mod Joining
 pub mod Telling
 pub mod LaidOut
 pub mod Following
-pub mod Rooms

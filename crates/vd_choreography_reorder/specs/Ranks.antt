@@ -1,8 +1,7 @@
 -- How lines of joint code rank, as in list scheduling: by depth, the longest chain of what comes one after the other. A line ranks no lower
--- than what stood before it and it may not pass. Depths count half rounds. A packet is heard in the first half of the next round. What is
--- made of a word behind a packet that tells it and opens nothing is in the second half of its round: so packets of a round stand side by
--- side, and no such use of a word goes before them.
-use Rattle.std.specs.Prelude.{ℕ, ◌+◌, ◌-◌, ◌*◌, ◌%◌, ◌^◌, max, min, nat_lt, Bool, true, false, not, if◌then◌else◌, List, [], ◌∷◌, map}
+-- than what stood before it and it may not pass. Depths count rounds. In a round acts come first, and then packets, which are heard in the
+-- next round: so packets of a round stand side by side.
+use Rattle.std.specs.Prelude.{ℕ, ◌+◌, ◌-◌, ◌*◌, ◌%◌, ◌^◌, max, min, Bool, true, false, not, if◌then◌else◌, List, [], ◌∷◌, map}
 use Rattle.vd_execution.specs.declared.instructions.Reg.{Reg}
 use Rattle.vd_execution.specs.declared.instructions.Action.{Action}
 use Rattle.vd_execution.specs.declared.instructions.Line.{Line}
@@ -73,42 +72,26 @@ abbrev pub noted : ℕ → List Reg → ℕ → Table → Table
 noted c [] n d = d
 noted c (r ∷ rs) n d = noted c rs n (raised (place_of c r.0) n d)
 
-abbrev pub noted_if : Bool → ℕ → List Reg → ℕ → Table → Table
-noted_if b c rs n d = if b then noted c rs n d else d
-
 -- ---- rounds
 
--- a half round has so many ranks: the first is that of acts, and the others are those of packets
-abbrev pub half_round : ℕ
-half_round = 65537
-
+-- a round has so many ranks: the first is that of acts, and the others are those of packets
 abbrev pub round : ℕ
-round = 131074
+round = 65537
 
--- what is in a block is deeper than all before it, by a number of rounds that is even
-abbrev pub two_rounds : ℕ
-two_rounds = 262148
+-- so many ranks behind the begin of a round, as far as 64 bits count
+abbrev pub from_begin : ℕ → ℕ → ℕ
+from_begin further n = min ((n - n % round) + further) (2 ^ 64 - 1)
 
--- so many ranks behind the begin of what has so many, as far as 64 bits count
-abbrev pub from_begin : ℕ → ℕ → ℕ → ℕ
-from_begin length further n = min ((n - n % length) + further) (2 ^ 64 - 1)
-
+-- What is heard in a round is of the next one, and so is a block behind all before it.
 abbrev pub next_round : ℕ → ℕ
-next_round n = max n (from_begin round round n)
+next_round n = max n (from_begin round n)
 
-abbrev pub second_half : ℕ → ℕ
-second_half n = from_begin round half_round n
-
-abbrev pub next_block : ℕ → ℕ
-next_block n = max n (from_begin two_rounds two_rounds n)
-
--- Packets of a half round stand by sender and receiver, and in every second round in the other order: a host that awaits first in one round
--- sends first in the next.
-abbrev pub packet_place : ℕ → ℕ → ℕ → ℕ
-packet_place n a b = if nat_lt (n % two_rounds) round then 1 + (a * 256 + b) else 65536 - (a * 256 + b)
+-- packets of a round stand by sender and receiver
+abbrev pub packet_place : ℕ → ℕ → ℕ
+packet_place a b = 1 + a * 256 + b
 
 abbrev pub among_packets : ℕ → ℕ → ℕ → ℕ
-among_packets n a b = max n (from_begin half_round (packet_place n a b) n)
+among_packets n a b = max n (from_begin (packet_place a b) n)
 
 -- ---- acts
 
@@ -142,7 +125,7 @@ packet_rank opens d a said b heard = among_packets (deepest d (room_column b) (d
 -- at the sender
 abbrev pub told_left : Bool → ℕ → List Reg → ℕ → Table → Table
 told_left opens a said n d =
-    raised_if opens (telling_place a) n (noted (room_column a) said n (noted_if (not opens) (word_column a) said (second_half n) d))
+    raised_if opens (telling_place a) n (noted (room_column a) said n d)
 
 -- at the receiver, in the next round
 abbrev pub heard_left : ℕ → List Reg → ℕ → Table → Table
@@ -166,10 +149,10 @@ mark_left n d = raised floor_place n (raised top_place n d)
 
 abbrev pub line_rank : Opened → Table → Line → ℕ
 line_rank opened d (line.Act x) = rank opened d (turn_of x)
-line_rank opened d (line.If a g) = next_block (d top_place)
-line_rank opened d (line.Else a) = next_block (d top_place)
-line_rank opened d (line.For a r count) = next_block (d top_place)
-line_rank opened d (line.End a) = next_block (d top_place)
+line_rank opened d (line.If a g) = next_round (d top_place)
+line_rank opened d (line.Else a) = next_round (d top_place)
+line_rank opened d (line.For a r count) = next_round (d top_place)
+line_rank opened d (line.End a) = next_round (d top_place)
 
 abbrev pub line_left : Opened → Line → ℕ → Table → Table
 line_left opened (line.Act x) n d = left opened (turn_of x) n d

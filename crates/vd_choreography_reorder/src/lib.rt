@@ -10,7 +10,6 @@ mod choreography_packets;
 mod laws;
 mod passing;
 mod ranks;
-mod rooms;
 
 pub use choreography_coalescing::{join_packets, joined_code_tells_the_same};
 pub use choreography_following::{followed_code_tells_the_same, words_are_followed};
@@ -20,5 +19,4 @@ pub use laws::{
     answers_come_first, order_is_kept, order_is_sorted, passes_bring_forward, ranks_are_apart,
     rounds_are_apart, test_is_sound, worked_lines,
 };
-pub use passing::bring_forward;
-pub use rooms::rounds_are_hastened;
+pub use passing::{bring_forward, early_code};

@@ -1,16 +1,18 @@
-//! The pass over the lines of joint code: a stable sort by rank.
+//! The pass over the lines of joint code: a stable sort by rank. Then the code of each host is hastened.
 
 ghost use Rattle.std.specs.Prelude.{◌≡◌, [], IfOk, OnOk};
 ghost use Rattle.vd_execution.specs.Joint.{Joint, IsTidy};
 ghost use Rattle.vd_execution.specs.Text.{flat};
+ghost use Rattle.vd_reorder.specs.Passing.{hastened_by};
 ghost use Rattle.vd_choreography_reorder.specs.Order.{IsBroughtForward};
 ghost use Rattle.vd_choreography_reorder.specs.Sorting.{early_order, in_order};
 ghost use Rattle.vd_choreography_reorder.specs.Testing.{opened_at};
 
-use crate::ranks::{Ranked, lines_of, rank_lines};
+use crate::ranks::{Ranked, lines_of, opened_by, rank_lines};
 use std::alloc::{AllocError, Global};
-use vd_base::Items;
-use vd_execution::{Line, Reg};
+use vd_base::{HostId, Items};
+use vd_execution::{Instr, Line, Reg};
+use vd_reorder::hasten_code;
 
 /// Sorts lines by rank. What ranks alike stays in its order.
 fn sort_by_rank(alloc: Global, list: &mut [Ranked]) -> Result<(), AllocError>
@@ -45,4 +47,12 @@ pub fn bring_forward(
     ensures code { IfOk result (λ new. (j : Joint) → IsTidy j → lines ≡ flat j [] → IsBroughtForward (opened_at opened.now) j new) }
 {
     arrange(alloc, lines, opened)
+}
+
+/// The code of a host of such lines, hastened: each packet that opens nothing goes as far ahead as what it needs allows, and before what the
+/// host awaits in its round.
+pub fn early_code(code: Items<Instr>, opened: &[Items<Reg>], host: HostId) -> Items<Instr>
+    ensures { result ≡ hastened_by (opened_at opened.now host.0) code }
+{
+    hasten_code(code, opened_by(opened, host))
 }

@@ -1,6 +1,5 @@
-//! How lines of joint code rank: by depth, the longest chain of what comes one after the other, in half rounds, and no lower than what
-//! stood before them and they may not pass. A packet is heard in the first half of the next round. What is made of a word behind a packet
-//! that tells it and opens nothing is in the second half of its round.
+//! How lines of joint code rank: by depth, the longest chain of what comes one after the other, in rounds, and no lower than what stood
+//! before them and they may not pass. In a round acts come first, and then packets. A packet is heard in the next round.
 
 ghost use Rattle.std.specs.Prelude.{◌≡◌, ◌+◌, ◌<◌, IfOk, OnOk, length, slice_index};
 ghost use Rattle.vd_execution.specs.Registers.{put};
@@ -8,7 +7,7 @@ ghost use Rattle.vd_reorder.specs.InRows.{in_row, in_rows};
 ghost use Rattle.vd_reorder.specs.ReorderLawsTesting.{meet, needs};
 ghost use Rattle.vd_choreography_reorder.specs.Passing.{turn_of};
 ghost use Rattle.vd_choreography_reorder.specs.Ranks as order;
-ghost use Rattle.vd_choreography_reorder.specs.Ranks.{behind_line, deepest, line_rank, nothing_left, noted, noted_if, raised, raised_if};
+ghost use Rattle.vd_choreography_reorder.specs.Ranks.{behind_line, deepest, line_rank, nothing_left, noted, raised, raised_if};
 ghost use Rattle.vd_choreography_reorder.specs.Testing.{opened_at};
 
 use std::alloc::{AllocError, Global};
@@ -22,14 +21,8 @@ const FLOOR: usize = 8;
 /// The place behind which marks of blocks stand.
 const TOP: usize = 9;
 
-/// The ranks of a half round: that of acts, and those of packets.
-const HALF_ROUND: u64 = 65537;
-
-/// The ranks of a round.
-const ROUND: u64 = 131074;
-
-/// The ranks of two rounds.
-const TWO_ROUNDS: u64 = 262148;
+/// The ranks of a round: that of acts, and those of packets.
+const ROUND: u64 = 65537;
 
 /// A line of joint code, and how it ranks.
 #[derive(Drop)]
@@ -220,69 +213,32 @@ fn raise_all(
     Ok(())
 }
 
-/// Leaves a rank at some registers, where it matters.
-fn raise_all_if(
-    ranks: &mut Items<u64>,
-    matters: bool,
-    column: usize,
-    registers: &[Reg],
-    rank: u64,
-) -> Result<(), AllocError>
-    ensures { OnOk result (slice_index ranks.new ≡ noted_if matters column registers.now rank (slice_index ranks.old)) }
+/// So many ranks behind the begin of a round.
+fn from_begin(further: u64, rank: u64) -> u64
+    ensures { result ≡ order.from_begin further rank }
 {
-    if matters {
-        raise_all(ranks, column, registers, rank)
-    } else {
-        Ok(())
-    }
-}
-
-/// So many ranks behind the begin of what has so many.
-fn from_begin(length: u64, further: u64, rank: u64) -> u64
-    requires { 0 < length }
-    ensures { result ≡ order.from_begin length further rank }
-{
-    rank.saturating_sub(rank % length).saturating_add(further)
+    rank.saturating_sub(rank % ROUND).saturating_add(further)
 }
 
 /// The first rank of the next round.
-pub(crate) fn next_round(rank: u64) -> u64
+fn next_round(rank: u64) -> u64
     ensures { result ≡ order.next_round rank }
 {
-    rank.max(from_begin(ROUND, ROUND, rank))
+    rank.max(from_begin(ROUND, rank))
 }
 
-/// The first rank of the second half of a round.
-fn second_half(rank: u64) -> u64
-    ensures { result ≡ order.second_half rank }
+/// Where a packet stands in its round: by sender and receiver.
+fn packet_place(from: HostId, to: HostId) -> u64
+    ensures { result ≡ order.packet_place from.0 to.0 }
 {
-    from_begin(ROUND, HALF_ROUND, rank)
+    1 + u64::from(from.0) * 256 + u64::from(to.0)
 }
 
-/// The first rank of a block, behind this rank.
-fn next_block(rank: u64) -> u64
-    ensures { result ≡ order.next_block rank }
-{
-    rank.max(from_begin(TWO_ROUNDS, TWO_ROUNDS, rank))
-}
-
-/// Where a packet stands in its half round: by sender and receiver, and in every second round in the other order.
-fn packet_place(rank: u64, from: HostId, to: HostId) -> u64
-    ensures { result ≡ order.packet_place rank from.0 to.0 }
-{
-    let link = u64::from(from.0) * 256 + u64::from(to.0);
-    if rank % TWO_ROUNDS < ROUND {
-        1 + link
-    } else {
-        65536 - link
-    }
-}
-
-/// The rank of a packet in the half round of a rank, and no lower than that.
+/// The rank of a packet in the round of a rank, and no lower than that.
 fn among_packets(rank: u64, from: HostId, to: HostId) -> u64
     ensures { result ≡ order.among_packets rank from.0 to.0 }
 {
-    rank.max(from_begin(HALF_ROUND, packet_place(rank, from, to), rank))
+    rank.max(from_begin(packet_place(from, to), rank))
 }
 
 /// Whether an action takes an item of a list.
@@ -362,7 +318,6 @@ fn leave_told(
 ) -> Result<(), AllocError>
     ensures { OnOk result (slice_index ranks.new ≡ order.told_left opens from.0 said.now rank (slice_index ranks.old)) }
 {
-    raise_all_if(ranks, !opens, word_column(from), said, second_half(rank))?;
     raise_all(ranks, room_column(from), said, rank)?;
     raise_if(ranks, opens, telling_place(from), rank)
 }
@@ -399,7 +354,7 @@ fn leave_packet(
 }
 
 /// The registers that a host's packets open.
-fn opened_by(opened: &[Items<Reg>], host: HostId) -> &[Reg]
+pub(crate) fn opened_by(opened: &[Items<Reg>], host: HostId) -> &[Reg]
     ensures { result.now ≡ opened_at opened.now host.0 }
 {
     match opened.get(usize::from(host.0)) {
@@ -452,10 +407,10 @@ fn rank_act(ranks: &mut Items<u64>, opened: &[Items<Reg>], act: &Act) -> Result<
 
 /// The rank of a mark of a block, behind all before it. All that follows stands behind it.
 fn rank_mark(ranks: &mut Items<u64>) -> Result<u64, AllocError>
-    ensures rank { IfOk result (λ rank. rank ≡ order.next_block (slice_index ranks.old order.top_place)) }
+    ensures rank { IfOk result (λ rank. rank ≡ order.next_round (slice_index ranks.old order.top_place)) }
     ensures behind { IfOk result (λ rank. slice_index ranks.new ≡ order.mark_left rank (slice_index ranks.old)) }
 {
-    let rank = next_block(rank_at(ranks.as_slice(), TOP));
+    let rank = next_round(rank_at(ranks.as_slice(), TOP));
     raise(ranks, TOP, rank)?;
     raise(ranks, FLOOR, rank)?;
     Ok(rank)
