@@ -1,5 +1,5 @@
 -- The code of a host that stands in a file where another one does, and is not longer.
-use Rattle.std.proofs.Common.{◌≡◌, ℕ, suc, ◌+◌, ◌*◌, ◌-◌, ◌≤◌, max, nat_eq, nat_le, Bool, true, false, ◌&&◌, if◌then◌else◌, List, [], ◌∷◌, ◌++◌, length, map, Option, Some, None, mul-le-mul_left, refl, sym, ap, ◌∙◌, subst, arith}
+use Rattle.std.proofs.Common.{◌≡◌, ℕ, zero, suc, ◌+◌, ◌*◌, ◌-◌, ◌≤◌, max, nat_eq, nat_le, Bool, true, false, ◌&&◌, if◌then◌else◌, List, [], ◌∷◌, ◌++◌, length, map, Option, Some, None, mul-le-mul_left, refl, sym, ap, ◌∙◌, subst, arith}
 use Rattle.std.proofs.lemmas.List.{length-append}
 use Rattle.std.specs.List.{list_all, AllByRecursion}
 use Rattle.vd_base.specs.HostSets.{host}
@@ -11,7 +11,7 @@ use Rattle.vd_execution.specs.declared.instructions.Instr.TheVariants as instr
 use Rattle.vd_execution.specs.Code.{Code, Finished, Then, Send, Recv, Choose, Repeat, weight}
 use Rattle.vd_execution.specs.Joint.{Part, if_part}
 use Rattle.vd_execution.specs.Ranges.{depth}
-use Rattle.vd_reorder.specs.Hastening.{Piece, Acts, Sends, Awaits, before}
+use Rattle.vd_reorder.specs.Hastening.{Piece, Acts, Sends, Awaits, before, Place, Here, Behind, InFirst, InOther, InBody, BehindBranch, BehindLoop, with_code, Stretch, One, Branch, Loop, stretch_before, IsExchanged, Exchanges, IsHastened}
 use Rattle.vd_hostcode.specs.Lines.{HasNumbers}
 use Rattle.vd_hostcode.specs.Ranges.{is_register, is_peer, packet_is_within}
 use Rattle.vd_projection.proofs.Numbers.{both, is_at_most}
@@ -193,19 +193,19 @@ module _ (hosts h : ℕ) where
       most : (x y c u v d : ℕ) → u ≤ x → v ≤ y → d ≤ c → max (suc (max u v)) d ≤ max (suc (max x y)) c
       most x y c u v d p q r = omega (arith, p, q, r)
 
-  pub repeat_then : (r count : ℕ) (x c u d : Code) → IsNoMore x u → IsNoMore c d → IsNoMore (Repeat r 0 count x c) (Repeat r 0 count u d)
-  repeat_then r count x c u d k m = record {
+  pub repeat_then : (r turn count : ℕ) (x c u d : Code) → IsNoMore x u → IsNoMore c d → IsNoMore (Repeat r turn count x c) (Repeat r turn count u d)
+  repeat_then r turn count x c u d k m = record {
     stands = λ s. (s.0, (k.stands s.1.0, m.stands s.1.1));
     steps = scaled (weight x) (weight c) (weight u) (weight d) k.steps m.steps;
     bulk = two (code_bulk x) (code_bulk c) (code_bulk u) (code_bulk d) k.bulk m.bulk;
     blocks = most (depth x) (depth c) (depth u) (depth d) k.blocks m.blocks;
   }
     where
-      scaled : (x c u d : ℕ) → u ≤ x → d ≤ c → (count - 0) * suc u + suc d ≤ (count - 0) * suc x + suc c
+      scaled : (x c u d : ℕ) → u ≤ x → d ≤ c → (count - turn) * suc u + suc d ≤ (count - turn) * suc x + suc c
       scaled x c u d p q =
           let one : suc u ≤ suc x = omega (arith, p) in
-          let times : (count - 0) * suc u ≤ (count - 0) * suc x = mul-le-mul_left (count - 0) one in
-          sums ((count - 0) * suc u) ((count - 0) * suc x) times q
+          let times : (count - turn) * suc u ≤ (count - turn) * suc x = mul-le-mul_left (count - turn) one in
+          sums ((count - turn) * suc u) ((count - turn) * suc x) times q
         where
           sums : (a b : ℕ) → a ≤ b → d ≤ c → a + suc d ≤ b + suc c
           sums a b le more = omega (arith, le, more)
@@ -224,6 +224,73 @@ module _ (hosts h : ℕ) where
       at : (b : Bool) → IsNoMore (if_part ps h f c) (if_part ps h g d) → IsNoMore (if b then f p.1 else if_part ps h f c) (if b then g p.1 else if_part ps h g d)
       at true rest = each p.1
       at false rest = rest
+
+  -- ---- exchanges in the code of a host
+
+  piece_past : (x : Stretch) (y : Piece) (c : Code) → IsNoMore (stretch_before x (before y c)) (before y (stretch_before x c))
+  piece_past (One x) y c = pieces_swap x y c
+  piece_past (Branch g first other) y c =
+      let m = counted y c in
+      let n = counted y (Choose g first other c) in
+      record {
+        stands = λ s. let w = m.apart s.1.1.1 in n.together w.0 (s.0, (s.1.0, (s.1.1.0, w.1)));
+        steps = same_steps (weight first + weight other) _ _ _ m.steps_are n.steps_are;
+        bulk = same_bulk (size y) (code_bulk first) (code_bulk other) _ _ _ m.bulk_is n.bulk_is;
+        blocks = same_blocks (suc (max (depth first) (depth other))) _ _ _ m.blocks_are n.blocks_are;
+      }
+    where
+      same_steps : (b k l c : ℕ) → k ≡ suc c → l ≡ suc (suc (b + c)) → l ≤ suc (b + k)
+      same_steps b k l c e f = omega (arith, e, f)
+
+      same_bulk : (n b o k l c : ℕ) → k ≡ n + c → l ≡ n + (3 + (b + (o + c))) → l ≤ 3 + (b + (o + k))
+      same_bulk n b o k l c e f = omega (arith, e, f)
+
+      same_blocks : (b k l c : ℕ) → k ≡ c → l ≡ max b c → l ≤ max b k
+      same_blocks b k l c e f = omega (arith, e, f)
+  piece_past (Loop r turn count body) y c =
+      let m = counted y c in
+      let n = counted y (Repeat r turn count body c) in
+      record {
+        stands = λ s. let w = m.apart s.1.1 in n.together w.0 (s.0, (s.1.0, w.1));
+        steps = same_steps ((count - turn) * suc (weight body)) _ _ _ m.steps_are n.steps_are;
+        bulk = same_bulk (size y) (code_bulk body) _ _ _ m.bulk_is n.bulk_is;
+        blocks = same_blocks (suc (depth body)) _ _ _ m.blocks_are n.blocks_are;
+      }
+    where
+      same_steps : (b k l c : ℕ) → k ≡ suc c → l ≡ suc (b + suc c) → l ≤ b + suc k
+      same_steps b k l c e f = omega (arith, e, f)
+
+      same_bulk : (n b k l c : ℕ) → k ≡ n + c → l ≡ n + (2 + (b + c)) → l ≤ 2 + (b + k)
+      same_bulk n b k l c e f = omega (arith, e, f)
+
+      same_blocks : (b k l c : ℕ) → k ≡ c → l ≡ max b c → l ≤ max b k
+      same_blocks b k l c e f = omega (arith, e, f)
+
+  at_place : (p : Place) (c d : Code) → IsNoMore c d → IsNoMore (with_code p c) (with_code p d)
+  at_place Here c d x = x
+  at_place (Behind y p) c d x = piece_then y (with_code p c) (with_code p d) (at_place p c d x)
+  at_place (InFirst g p other rest) c d x =
+      choose_then g (with_code p c) other rest (with_code p d) other rest (at_place p c d x) (itself other) (itself rest)
+  at_place (InOther g first p rest) c d x =
+      choose_then g first (with_code p c) rest first (with_code p d) rest (itself first) (at_place p c d x) (itself rest)
+  at_place (InBody r t n p rest) c d x = repeat_then r t n (with_code p c) rest (with_code p d) rest (at_place p c d x) (itself rest)
+  at_place (BehindBranch g first other p) c d x =
+      choose_then g first other (with_code p c) first other (with_code p d) (itself first) (itself other) (at_place p c d x)
+  at_place (BehindLoop r t n body p) c d x = repeat_then r t n body (with_code p c) body (with_code p d) (itself body) (at_place p c d x)
+
+  one_exchanged : (c d : Code) → IsExchanged c d → IsNoMore c d
+  one_exchanged c d x =
+      let old : Code = stretch_before x.first (before x.second x.rest) in
+      let new : Code = before x.second (stretch_before x.first x.rest) in
+      subst (λ k. IsNoMore k d) (sym x.old)
+      (subst (IsNoMore (with_code x.place old)) (sym x.new) (at_place x.place old new (piece_past x.first x.second x.rest)))
+
+  all_exchanged : (n : ℕ) (c d : Code) → Exchanges n c d → IsNoMore c d
+  all_exchanged zero c d x = same_code c d x
+  all_exchanged (suc n) c d x = onwards c x.0 d (one_exchanged c x.0 x.1) (all_exchanged n x.0 d x.2)
+
+  pub hastened_is_no_more : (c d : Code) → IsHastened c d → IsNoMore c d
+  hastened_is_no_more c d x = all_exchanged x.0 c d x.1
 
   -- ---- packets that share
 

@@ -1,10 +1,10 @@
 -- The code of each host in an order that waits less is no more than in program order.
-use Rattle.std.proofs.Common.{◌≡◌, ℕ, zero, suc, ◌+◌, ◌≤◌, nat_eq, nat_le, Bool, true, false, ◌&&◌, if◌then◌else◌, List, [], ◌∷◌, ◌++◌, length, Option, Some, None, refl, sym, ap, ◌∙◌, subst, arith}
+use Rattle.std.proofs.Common.{◌≡◌, ℕ, zero, suc, ◌+◌, ◌-◌, ◌*◌, ◌≤◌, nat_eq, nat_le, Bool, true, false, ◌&&◌, if◌then◌else◌, List, [], ◌∷◌, ◌++◌, length, Option, Some, None, refl, sym, ap, ◌∙◌, subst, arith}
 use Rattle.std.proofs.lemmas.Bool.{eqb-true}
 use Rattle.std.proofs.lemmas.List.{length-append}
 use Rattle.vd_base.specs.Limits.{most_packet_words}
 use Rattle.vd_execution.specs.declared.instructions.Reg.{Reg}
-use Rattle.vd_execution.specs.Code.{Code, Then, Send, Recv, Choose, Repeat}
+use Rattle.vd_execution.specs.Code.{Code, Finished, Then, Send, Recv, Choose, Repeat, weight}
 use Rattle.vd_execution.specs.Joint.{Joint, Done, Do, Msg, If, For, if_part, code_of, IsTidy}
 use Rattle.vd_reorder.specs.Hastening.{Piece, Acts, Sends, Awaits}
 use Rattle.vd_projection.proofs.Numbers.{at_most}
@@ -14,7 +14,7 @@ use Rattle.vd_choreography_reorder.specs.Order.{IsCarefullyTurned, CarefulTurns,
 use Rattle.vd_choreography_reorder.proofs.Front.{forward_by, still_tidy}
 use Rattle.vd_choreography_reorder.specs.Joining.{can_share, message_before, joined}
 use Rattle.vd_choreography_reorder.proofs.Front.{joined_tidy}
-use Rattle.vd_projection.specs.Early.{opened_of, IsEarly}
+use Rattle.vd_projection.specs.Early.{opened_of, IsEarly, IsOfHosts}
 use Rattle.vd_projection.proofs.ProjectionReorderedFilesCodes.{IsNoMore, itself, same_code, onwards, maybe, maybe_then, maybe_swap, choose_then, repeat_then, part_then, sends_share, receives_share}
 
 both_are : (a b : Bool) → (a && b) ≡ true → (a ≡ true) × (b ≡ true)
@@ -73,7 +73,7 @@ module _ (hosts h : ℕ) where
   loop_then : (ps : List (ℕ × ℕ)) (count : ℕ) (i k l n : Joint) → Shorter i l → Shorter k n → Shorter (For ps count i k) (For ps count l n)
   loop_then ps count i k l n x z =
       part_then hosts h ps (λ r. Repeat r 0 count (code_of h i) (code_of h k)) (λ r. Repeat r 0 count (code_of h l) (code_of h n)) (code_of h k) (code_of h n)
-      (λ r. repeat_then hosts h r count (code_of h i) (code_of h k) (code_of h l) (code_of h n) x z) z
+      (λ r. repeat_then hosts h r 0 count (code_of h i) (code_of h k) (code_of h l) (code_of h n) x z) z
 
   at_spot : (p : Spot) (j k : Joint) → Shorter j k → Shorter (with_joint p j) (with_joint p k)
   at_spot Here j k s = s
@@ -168,3 +168,21 @@ module _ (hosts h : ℕ) where
       (further (without_empty j) i k (all_exchanges (opened_of j) x.exchanged.0 (without_empty j) i x.exchanged.1)
       (further i (without_empty i) k (empty_left_out i)
       (subst (Shorter (without_empty i)) (sym x.shared) (packets_share (without_empty i) (still_tidy i still)))))
+
+-- ---- who has no code in program order has none
+
+nothing_left : (c : Code) → weight c ≤ 0 → c ≡ Finished
+nothing_left Finished le = refl
+nothing_left (Then a c) le = absurd (omega (arith, le))
+nothing_left (Send p rs c) le = absurd (omega (arith, le))
+nothing_left (Recv p rs c) le = absurd (omega (arith, le))
+nothing_left (Choose g first other c) le = absurd (omega (arith, le))
+nothing_left (Repeat r t n body c) le = absurd (some ((n - t) * suc (weight body)) (weight c) le)
+  where
+    some : (a b : ℕ) → a + suc b ≤ 0 → ⊥
+    some a b le = omega (arith, le)
+
+pub early_of_hosts : (n : ℕ) (j k : Joint) → IsTidy j → IsEarly j k → IsOfHosts n j → IsOfHosts n k
+early_of_hosts n j k tidy early few h le =
+    let steps = (early_is_no_more n h j k tidy early).steps in
+    nothing_left (code_of h k) (subst (λ (c : Code). weight (code_of h k) ≤ weight c) (few h le) steps)

@@ -17,5 +17,5 @@ pub use code_sizes::{
 pub use codes::{codes_of, host_count, joint_lines, split};
 pub use laws::host_codes_can_run;
 pub use projection_files::{digests_are_bytes, stored_programs_are_read_back};
-pub use projection_reordered::{early_codes_run_alike, split_early};
+pub use projection_reordered::{early_codes_run_alike, early_texts_are_careful, split_early};
 pub use projection_reordered_files::early_programs_are_read_back;

@@ -4,4 +4,4 @@ mod codes;
 mod laws;
 
 pub use codes::split_early;
-pub use laws::early_codes_run_alike;
+pub use laws::{early_codes_run_alike, early_texts_are_careful};

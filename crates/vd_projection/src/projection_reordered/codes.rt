@@ -2,13 +2,15 @@ ghost use Rattle.std.specs.Prelude.{◌≡◌, [], IfOk, map};
 ghost use Rattle.std.specs.List.{range_with_len};
 ghost use Rattle.vd_execution.specs.Text.{pick};
 ghost use Rattle.vd_reorder.specs.Packets as packets;
+ghost use Rattle.vd_reorder.specs.Passing.{hastened_by};
+ghost use Rattle.vd_choreography_reorder.specs.Testing as testing;
 ghost use Rattle.vd_projection.specs.Programs.{CanRunAt};
 ghost use Rattle.vd_projection.specs.Early.{AreEarlyCodes, ComeEarly};
 
-use crate::{codes_of, host_count, joint_lines};
+use crate::{host_count, joint_lines};
 use std::alloc::{AllocError, Global};
 use vd_base::{HostId, Items, Proto};
-use vd_choreography_reorder::{bring_forward, join_packets};
+use vd_choreography_reorder::{bring_forward, early_code, join_packets};
 use vd_core::Program;
 use vd_execution::{Instr, Line, Reg};
 use vd_reorder::opened_in;
@@ -34,13 +36,50 @@ fn opened_by(alloc: Global, hosts: u8, lines: &[Line]) -> Result<Items<Items<Reg
     Ok(opened)
 }
 
-/// The lines in an order that waits less, of so many hosts, with packets that share.
-fn early_lines(alloc: Global, hosts: u8, lines: Items<Line>) -> Result<Items<Line>, AllocError>
+/// The hastened code of a host.
+fn code_at(
+    alloc: Global,
+    lines: &[Line],
+    opened: &[Items<Reg>],
+    host: HostId,
+) -> Result<Items<Instr>, AllocError>
+    ensures { IfOk result (λ code. code ≡ hastened_by (testing.opened_at opened.now host.0) (pick host.0 lines.now)) }
+{
+    let code = host_code(alloc, lines, host)?;
+    Ok(early_code(code, opened, host))
+}
+
+/// The hastened code of each of so many hosts.
+fn hastened_codes(
+    alloc: Global,
+    hosts: u8,
+    lines: &[Line],
+    opened: &[Items<Reg>],
+) -> Result<Items<Items<Instr>>, AllocError>
+    ensures { IfOk result (λ codes. codes ≡
+        map (λ h. hastened_by (testing.opened_at opened.now h) (pick h lines.now)) (range_with_len 0 hosts)) }
+{
+    let mut codes = Items::new(alloc);
+    for number in 0..hosts {
+        let code = code_at(alloc, lines, opened, HostId(number))?;
+        codes.push(code)?;
+    }
+    Ok(codes)
+}
+
+/// The codes of so many hosts in an order that waits less, with packets that share.
+fn early_codes(
+    alloc: Global,
+    hosts: u8,
+    lines: Items<Line>,
+) -> Result<Items<Items<Instr>>, AllocError>
     ensures { IfOk result (ComeEarly hosts lines) }
 {
     let opened = opened_by(alloc, hosts, lines.as_slice())?;
-    let forward = bring_forward(alloc, lines, opened.as_slice())?;
-    join_packets(alloc, forward)
+    let known = opened.as_slice();
+    let forward = bring_forward(alloc, lines, known)?;
+    let joined = join_packets(alloc, forward)?;
+    hastened_codes(alloc, hosts, joined.as_slice(), known)
 }
 
 /// The code of each host of a program in an order that waits less, by host, at a valid assignment of protocols to its slots.
@@ -54,6 +93,5 @@ pub fn split_early(
 {
     let hosts = host_count(program);
     let lines = joint_lines(alloc, program, protocols)?;
-    let lines = early_lines(alloc, hosts, lines)?;
-    codes_of(alloc, hosts, lines.as_slice())
+    early_codes(alloc, hosts, lines)
 }

@@ -3,5 +3,5 @@ use Rattle.vd_projection.proofs.projection_reordered.codes.split_early.Goals as 
 
 pub returns : goal.returns
 returns c =
-    codes_come_early c.args.program.now c.args.protocols.now c.requires c.host_count-hosts.result c.host_count-hosts.ensures
-    c.in_ok-lines.lines c.in_ok-lines-2.lines c.as_slice.result.now (c.in_ok-lines.ensures {u = tt}) (c.in_ok-lines-2.ensures {u = tt}) c.as_slice.ensures c.codes_of.result c.codes_of.ensures
+    codes_come_early c.args.program.now c.args.protocols.now c.requires c.host_count-hosts.result c.host_count-hosts.ensures c.in_ok-lines.lines
+    (c.in_ok-lines.ensures {u = tt}) c.early_codes.result c.early_codes.ensures
