@@ -28,11 +28,11 @@ last_digit : (x : ℕ) (xs : List ℕ) → AreDigits (x ∷ xs) → is_digit (la
 last_digit x [] h = (and_parts (is_digit x) true h).0
 last_digit x (y ∷ ys) h = last_digit y ys (and_parts (is_digit x) (list_all is_digit (y ∷ ys)) h).1
 
-not_early : (before other digits : List ℕ) → 0 < length digits → AreDigits digits → before ++ digits ≡ other ++ codes "early by rank" → ⊥
+not_early : (before other digits : List ℕ) → 0 < length digits → AreDigits digits → before ++ digits ≡ other ++ codes "early by round" → ⊥
 not_early before other [] some are e = absurd (omega (arith, some))
 not_early before other (x ∷ xs) some are e =
-    let last : last_of x xs ≡ 107 = sym (last_behind 0 before x xs) ∙ ap (last_of 0) e
-    ∙ last_behind 0 other 101 (97 ∷ 114 ∷ 108 ∷ 121 ∷ 32 ∷ 98 ∷ 121 ∷ 32 ∷ 114 ∷ 97 ∷ 110 ∷ 107 ∷ []) in
+    let last : last_of x xs ≡ 100 = sym (last_behind 0 before x xs) ∙ ap (last_of 0) e
+    ∙ last_behind 0 other 101 (97 ∷ 114 ∷ 108 ∷ 121 ∷ 32 ∷ 98 ∷ 121 ∷ 32 ∷ 114 ∷ 111 ∷ 117 ∷ 110 ∷ 100 ∷ []) in
     let high = digit_high (last_of x xs) (last_digit x xs are) in
     omega (arith, last, high)
 
@@ -66,11 +66,11 @@ line_last a x b y line e = append_cancel_right (a ++ x) (b ++ y) line (append_as
 
 -- ---- plans
 
-other_order : (program : NormalForm) (a : Assignment) (text other printed : List ℕ) → a.cost < 2 ^ 64 → text ++ printed_at program a ≡ other ++ (printed ++ codes "early by rank\n") → ⊥
+other_order : (program : NormalForm) (a : Assignment) (text other printed : List ℕ) → a.cost < 2 ^ 64 → text ++ printed_at program a ≡ other ++ (printed ++ codes "early by round\n") → ⊥
 other_order program a text other printed small e =
     let lines = slot_lines program.hosts 0 program.slots a.protocols in
     not_early (text ++ (lines ++ codes "cost ")) (other ++ printed) (decimal a.cost) (decimal_nonempty a.cost small) (digits_decimal decimal_model a.cost small)
-    (append_cancel_right ((text ++ (lines ++ codes "cost ")) ++ decimal a.cost) ((other ++ printed) ++ codes "early by rank") (codes "\n") (sym (left lines) ∙ e ∙ right))
+    (append_cancel_right ((text ++ (lines ++ codes "cost ")) ++ decimal a.cost) ((other ++ printed) ++ codes "early by round") (codes "\n") (sym (left lines) ∙ e ∙ right))
   where
     left : (lines : List ℕ) → text ++ (lines ++ (codes "cost " ++ (decimal a.cost ++ codes "\n"))) ≡ ((text ++ (lines ++ codes "cost ")) ++ decimal a.cost) ++ codes "\n"
     left lines =
@@ -78,25 +78,25 @@ other_order program a text other printed small e =
         ∙ sym (append_assoc text (lines ++ codes "cost ") (decimal a.cost ++ codes "\n"))
         ∙ sym (append_assoc (text ++ (lines ++ codes "cost ")) (decimal a.cost) (codes "\n"))
 
-    right : other ++ (printed ++ codes "early by rank\n") ≡ ((other ++ printed) ++ codes "early by rank") ++ codes "\n"
-    right = sym (append_assoc other printed (codes "early by rank\n")) ∙ sym (append_assoc (other ++ printed) (codes "early by rank") (codes "\n"))
+    right : other ++ (printed ++ codes "early by round\n") ≡ ((other ++ printed) ++ codes "early by round") ++ codes "\n"
+    right = sym (append_assoc other printed (codes "early by round\n")) ∙ sym (append_assoc (other ++ printed) (codes "early by round") (codes "\n"))
 
 pub plans_tell : PlansTell
 plans_tell =
     record {
       hashed = λ text printed. text ++ printed;
-      early_hashed = λ text printed. text ++ (printed ++ codes "early by rank\n");
+      early_hashed = λ text printed. text ++ (printed ++ codes "early by round\n");
       plan = λ text printed. refl;
       early_plan = λ text printed. refl;
       choice = λ text printed other e. append_cancel_left text printed other e;
-      early_choice = λ text printed other e. append_cancel_right printed other (codes "early by rank\n") (append_cancel_left text (printed ++ codes "early by rank\n") (other ++ codes "early by rank\n") e);
+      early_choice = λ text printed other e. append_cancel_right printed other (codes "early by round\n") (append_cancel_left text (printed ++ codes "early by round\n") (other ++ codes "early by round\n") e);
       source = λ text other printed e. append_cancel_right text other printed e;
-      early_source = λ text other printed e. append_cancel_right text other (printed ++ codes "early by rank\n") e;
+      early_source = λ text other printed e. append_cancel_right text other (printed ++ codes "early by round\n") e;
       both = λ text printed other others same e. both_same text other printed others same e;
       early_both = λ text printed other others same e.
-          both_same text other printed others same (line_last text printed other others (codes "early by rank\n") e);
+          both_same text other printed others same (line_last text printed other others (codes "early by round\n") e);
       else_runs_on = λ text printed other others e. runs_on text printed other others e;
       early_else_runs_on = λ text printed other others e.
-          runs_on text printed other others (line_last text printed other others (codes "early by rank\n") e);
+          runs_on text printed other others (line_last text printed other others (codes "early by round\n") e);
       order = λ program a text other printed small e. other_order program a text other printed small e;
     }

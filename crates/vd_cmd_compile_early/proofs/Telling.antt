@@ -28,10 +28,10 @@ made stores printed = record { status = Ended; stores = stores; printed = printe
 module _ (program : NormalForm) (text prefix : List ℕ) where
   -- the plan that was made is that of what is printed
   pub programs_stored : (a : Assignment) (printed seen marked shown : List ℕ) (all : List (List Instr)) (plan : Digest) (form : NormalForm) (stores : List Stored)
-      → IsSelected program a → IsWellMade program → NumbersFit program → seen ≡ printed → marked ≡ seen ++ codes "early by rank\n" → shown ≡ marked
+      → IsSelected program a → IsWellMade program → NumbersFit program → seen ≡ printed → marked ≡ seen ++ codes "early by round\n" → shown ≡ marked
       → plan.bytes ≡ sha256 (text ++ shown) → form ≡ program → AreEarlyCodes program a.protocols all → stores ≡ host_files prefix form.hosts plan 0 all → TellsPrograms program text prefix (Ok (made stores printed))
   programs_stored a printed seen marked shown all plan form stores selected well numbers q m s b f early is e =
-      let behind : shown ≡ printed ++ codes "early by rank\n" = s ∙ m ∙ ap (λ (t : List ℕ). t ++ codes "early by rank\n") q in
+      let behind : shown ≡ printed ++ codes "early by round\n" = s ∙ m ∙ ap (λ (t : List ℕ). t ++ codes "early by round\n") q in
       let digest : plan ≡ early_plan_for text printed = λ i. record { bytes = (b ∙ ap (λ (t : List ℕ). sha256 (text ++ t)) behind) i } in
       record {
         assignment = a;
@@ -41,7 +41,7 @@ module _ (program : NormalForm) (text prefix : List ℕ) where
         can_be_stored = λ h lt.
             record {
               runs = record { made = well; numbers = numbers; runnable = runnable_of program a selected a.protocols refl };
-              digest = is_digest (text ++ (printed ++ codes "early by rank\n"));
+              digest = is_digest (text ++ (printed ++ codes "early by round\n"));
               declared = lt;
             };
         stores = is ∙ (λ i. host_files prefix (f i).hosts (digest i) 0 (early.codes_are i));

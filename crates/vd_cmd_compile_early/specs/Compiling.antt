@@ -14,20 +14,21 @@ use Rattle.vd_cmd_labels.specs.Outcomes.{TextOutcomes, LabelOutcomes}
 use Rattle.vd_cmd_choice.specs.Searching.{Search, SomeSearch}
 use Rattle.vd_cmd_choice.specs.Choice.{Chosen, assigned_answer, printed_at, source_choice_then}
 use Rattle.vd_cmd_compile.specs.Compiling.{host_files, plan_for}
-use Rattle.vd_projection.specs.Early.{each_code}
+use Rattle.vd_projection.specs.Early.{each_code, opened_in_order}
 
 -- ---- what it comes to
 
 -- The programs of one source and one choice in an order that waits less know each other by this digest, which is not that of the programs
 -- in program order.
 abbrev pub early_plan_for : (text printed : List ℕ) → Digest
-early_plan_for text printed = plan_for text (printed ++ codes "early by rank\n")
+early_plan_for text printed = plan_for text (printed ++ codes "early by round\n")
 
 -- The code of each host is stored in its file, where this is what all hosts do together; and the choice is printed with its cost.
 abbrev pub early_at : NormalForm → Joint → Assignment → (text prefix : List ℕ) → Answer
 early_at program joint a text prefix =
     let printed = printed_at program a in
-    ended (host_files prefix program.hosts (early_plan_for text printed) 0 (each_code (length program.hosts) joint)) printed
+    let codes = each_code (opened_in_order program a.protocols) (length program.hosts) joint in
+    ended (host_files prefix program.hosts (early_plan_for text printed) 0 codes) printed
 
 -- with what was found for the source with this text
 abbrev pub early_for : Joint → (text prefix : List ℕ) → Chosen → Answer

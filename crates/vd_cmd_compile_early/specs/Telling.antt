@@ -16,7 +16,7 @@ use Rattle.vd_cmd_plan.specs.declared.status.Status.TheVariants.{Ended}
 use Rattle.vd_cmd_labels.specs.Sources.{IsSourceText}
 use Rattle.vd_cmd_choice.specs.Choice.{IsSelected}
 use Rattle.vd_cmd_compile.specs.Compiling.{host_files}
-use Rattle.vd_projection.specs.Early.{IsEarly, each_code}
+use Rattle.vd_projection.specs.Early.{IsEarly, each_code, opened_in_order}
 use Rattle.vd_cmd_compile_early.specs.Compiling.{early_plan_for}
 
 -- The answer stores a file for each host, of its part of what all hosts do together: the joint code at the choice of protocols, in an order
@@ -28,7 +28,8 @@ pub record StoresEarly (program : NormalForm) (text prefix : List ℕ) (answer :
   pub joint : Joint
   pub early : IsEarly (joint_of program assignment.protocols) joint
   pub can_be_stored : (h : ℕ) → h < length program.hosts → CanBeStored program assignment.protocols (early_plan_for text answer.printed) h
-  pub stores : answer.stores ≡ host_files prefix program.hosts (early_plan_for text answer.printed) 0 (each_code (length program.hosts) joint)
+  pub stores : let codes = each_code (opened_in_order program assignment.protocols) (length program.hosts) joint in
+      answer.stores ≡ host_files prefix program.hosts (early_plan_for text answer.printed) 0 codes
 
 -- So does an answer of a program that ended.
 abbrev pub TellsPrograms : NormalForm → (text prefix : List ℕ) → Result Answer Status → Type 0

@@ -23,10 +23,10 @@ use vd_search_stages::Assignment;
 
 /// What is printed, with the word for this order behind it.
 fn marked(alloc: Global, printed: &[u8]) -> Result<Bytes, AllocError>
-    ensures { IfOk result (λ text. text ≡ printed.now ++ codes "early by rank\n") }
+    ensures { IfOk result (λ text. text ≡ printed.now ++ codes "early by round\n") }
 {
     let mut text = Bytes::from_slice(alloc, printed)?;
-    text.extend_from_slice(b"early by rank\n")?;
+    text.extend_from_slice(b"early by round\n")?;
     Ok(text)
 }
 

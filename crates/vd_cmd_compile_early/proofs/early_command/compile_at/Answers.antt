@@ -15,7 +15,7 @@ files_of-requires c = few_codes c.args.program.now c.as_slice-protocols.result.n
 
 pub returns-clause-computes : goal.returns-clause-computes
 returns-clause-computes c =
-    let early = c.in_ok-codes.ensures {u = tt} in (
+    let early = subst (λ (l : List Proto). AreEarlyCodes c.args.program.now l c.in_ok-codes.codes) c.as_slice-protocols.ensures (c.in_ok-codes.ensures {u = tt}) in (
       early.joint,
       answered c.args.program.now early.joint c.args.assignment.now c.args.text.now c.args.prefix.now c.in_ok-printed.printed c.as_slice.result.now c.in_ok-told.told c.as_slice-2.result.now
           c.in_ok-codes.codes c.plan_of-plan.result c.form.result.now c.in_ok-stores.stores (c.in_ok-printed.ensures {u = tt}) c.as_slice.ensures (c.in_ok-told.ensures {u = tt}) c.as_slice-2.ensures
