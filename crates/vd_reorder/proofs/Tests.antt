@@ -15,24 +15,21 @@ once false = refl
 pub same_either_way : (n m : ℕ) → nat_eq n m ≡ (if nat_eq n m then true else nat_eq m n)
 same_either_way n m = sym (ap (λ b. if nat_eq n m then true else b) (sym (eq_turned n m)) ∙ once (nat_eq n m))
 
-either_draws : (m d e : Bool) → (if m then (if not d then (if not e then false else true) else true) else false) ≡ ((d || e) && m)
+either_draws : (m d e : Bool) → (if m then (if not d then (if not e then false else true) else true) else false) ≡ (m && (d || e))
 either_draws true true e = refl
 either_draws true false true = refl
 either_draws true false false = refl
-either_draws false true e = refl
-either_draws false false true = refl
-either_draws false false false = refl
+either_draws false d e = refl
 
-pub careful_action : (known : List Reg) (b a : Action) → careful (stays_by known) (Acts b) (Acts a) ≡ ((is_draw b || is_draw a) && may (Acts b) (Acts a))
+pub careful_action : (known : List Reg) (b a : Action) → careful (stays_by known) (Acts b) (Acts a) ≡ (may (Acts b) (Acts a) && (is_draw b || is_draw a))
 careful_action known b a = either_draws (may (Acts b) (Acts a)) (is_draw b) (is_draw a)
 
-draws : (m e : Bool) → (if m then (if not e then false else true) else false) ≡ (e && m)
+draws : (m e : Bool) → (if m then (if not e then false else true) else false) ≡ (m && e)
 draws true true = refl
 draws true false = refl
-draws false true = refl
-draws false false = refl
+draws false e = refl
 
-pub careful_receive : (known : List Reg) (q : ℕ) (qs : List Reg) (a : Action) → careful (stays_by known) (Awaits q qs) (Acts a) ≡ (is_draw a && may (Awaits q qs) (Acts a))
+pub careful_receive : (known : List Reg) (q : ℕ) (qs : List Reg) (a : Action) → careful (stays_by known) (Awaits q qs) (Acts a) ≡ (may (Awaits q qs) (Acts a) && is_draw a)
 careful_receive known q qs a = draws (may (Awaits q qs) (Acts a)) (is_draw a)
 
 packet : (m s k : Bool) → (if m then (if not s then (if k then false else true) else true) else false) ≡ (m && (s || not k))

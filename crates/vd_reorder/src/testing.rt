@@ -67,10 +67,10 @@ fn action_passes(first: &Instr, action: &Action, opened: &[Reg]) -> bool
 {
     match first {
         Instr::Do(earlier) => {
-            (is_draw(earlier) || is_draw(action)) && action_passes_action(earlier, action)
+            action_passes_action(earlier, action) && (is_draw(earlier) || is_draw(action))
         }
         Instr::Recv(peer, registers) => {
-            is_draw(action) && action_passes_receive(*peer, registers.as_slice(), action)
+            action_passes_receive(*peer, registers.as_slice(), action) && is_draw(action)
         }
         _ => false,
     }
