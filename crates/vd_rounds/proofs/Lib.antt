@@ -1,0 +1,3 @@
+pub mod Front
+mod TallyText
+mod TallyRuns

@@ -1,0 +1,10 @@
+//! What a run costs, read off the codes of its hosts: how many packets, words and bytes each tells each other one.
+#![tactic(auto)]
+
+mod laws;
+mod loads;
+mod tallies;
+
+pub use laws::hosts_tell_within;
+pub use loads::{Load, Traffic, plain_bytes, sealed_bytes, traffic_to};
+pub use tallies::{Bound, Measure, Tally, count_told};
