@@ -25,6 +25,7 @@ help_read = record {
   early = λ a b. refl;
   needs = λ a. refl;
   needs_each = λ a. refl;
+  rounds = λ a. refl;
   host = λ a b c d. refl;
   check = λ a b c. refl;
   certify = λ a b. refl;

@@ -9,6 +9,8 @@ use Rattle.vd_cmd.specs.Numbers.{number_within}
 use Rattle.vd_cmd.specs.declared.command.Command.{Command}
 use Rattle.vd_cmd.specs.declared.command.Command.TheVariants.{OnFiles, KeyDeal, Early, Host, Check, Run}
 use Rattle.vd_cmd.specs.declared.command.KeySource.{KeySource}
+use Rattle.vd_cmd.specs.declared.command.NeedsKind.{NeedsKind}
+use Rattle.vd_cmd.specs.declared.command.NeedsKind.TheVariants as needs_kind
 use Rattle.vd_cmd.specs.declared.command.KeySource.TheVariants.{Drawn, InFile}
 use Rattle.vd_cmd.specs.declared.command.FilesCommand.{FilesCommand}
 use Rattle.vd_cmd.specs.declared.command.FilesCommand.TheVariants.{Clear, Labels, Choose, Draw, Reveals, Certify, Compile, Needs, Deal, Replay, Excuse, Depends, Influences, Column, Gen, Trial}
@@ -92,15 +94,16 @@ compile_with source prefix other =
     if bytes_eq other (codes "early") then early_of source prefix (Some most_search_budget)
     else compile_of source prefix (number_within 1 most_search_budget other)
 
-abbrev pub needs_of : (file : List ℕ) → (each : Bool) → Option ℕ → Option Command
-needs_of file each (Some budget) = Some (OnFiles (Needs (record { file = file; each = each; budget = budget })))
-needs_of file each None = None
+-- `needs`, which prints this of them, or `rounds`
+abbrev pub needs_of : (file : List ℕ) → NeedsKind → Option ℕ → Option Command
+needs_of file kind (Some budget) = Some (OnFiles (Needs (record { file = file; kind = kind; budget = budget })))
+needs_of file kind None = None
 
 -- with one word more: `each`, or a budget
 abbrev pub needs_with : (file other : List ℕ) → Option Command
 needs_with file other =
-    if bytes_eq other (codes "each") then needs_of file true (Some most_search_budget)
-    else needs_of file false (number_within 1 most_search_budget other)
+    if bytes_eq other (codes "each") then needs_of file needs_kind.Each (Some most_search_budget)
+    else needs_of file needs_kind.Sizes (number_within 1 most_search_budget other)
 
 abbrev pub replay_of : (source inputs prefix schedule : List ℕ) → (messages : Bool) → Option ℕ → Option Command
 replay_of source inputs prefix schedule messages (Some budget) =
@@ -143,7 +146,8 @@ fixed_form_of (word ∷ argument ∷ []) =
     else if bytes_eq word (codes "choose") then Some (OnFiles (Choose argument most_search_budget))
     else if bytes_eq word (codes "draw") then Some (OnFiles (Draw argument most_search_budget))
     else if bytes_eq word (codes "reveals") then reveals_of argument None (Some most_search_budget)
-    else if bytes_eq word (codes "needs") then needs_of argument false (Some most_search_budget)
+    else if bytes_eq word (codes "needs") then needs_of argument needs_kind.Sizes (Some most_search_budget)
+    else if bytes_eq word (codes "rounds") then needs_of argument needs_kind.Rounds (Some most_search_budget)
     else if bytes_eq word (codes "gen") then gen_of (number_within 1 most_coordinates argument)
     else if bytes_eq word (codes "trial") then trial_of (number_within 1 most_coordinates argument)
     else None
@@ -157,11 +161,12 @@ fixed_form_of (word ∷ source ∷ other ∷ []) =
     else if bytes_eq word (codes "reveals") then reveals_with source other
     else if bytes_eq word (codes "compile") then compile_of source other (Some most_search_budget)
     else if bytes_eq word (codes "needs") then needs_with source other
+    else if bytes_eq word (codes "rounds") then needs_of source needs_kind.Rounds (number_within 1 most_search_budget other)
     else None
 fixed_form_of (word ∷ first ∷ second ∷ third ∷ []) =
     if bytes_eq word (codes "compile") then compile_with first second third
     else if bytes_eq word (codes "check") then Some (Check (record { program = first; inputs = second; deal = third }))
-    else if bytes_eq word (codes "needs") && bytes_eq second (codes "each") then needs_of first true (number_within 1 most_search_budget third)
+    else if bytes_eq word (codes "needs") && bytes_eq second (codes "each") then needs_of first needs_kind.Each (number_within 1 most_search_budget third)
     else if bytes_eq word (codes "reveals") then reveals_of first (Some second) (number_within 1 most_search_budget third)
     else None
 fixed_form_of (word ∷ source ∷ inputs ∷ prefix ∷ schedule ∷ []) =

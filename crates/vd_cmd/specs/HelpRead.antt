@@ -6,6 +6,7 @@ use Rattle.vd_cmd.specs.Commands.{form_of}
 use Rattle.vd_cmd.specs.declared.command.Command.TheVariants.{OnFiles, Early, Host, Check}
 use Rattle.vd_cmd.specs.Numbers.{number_within}
 use Rattle.vd_cmd.specs.declared.command.FilesCommand.{FilesCommand}
+use Rattle.vd_cmd.specs.declared.command.NeedsKind.TheVariants as needs_kind
 use Rattle.vd_cmd.specs.declared.command.FilesCommand.TheVariants.{Clear, Labels, Choose, Draw, Reveals, Certify, Compile, Needs, Replay, Excuse, Depends, Influences, Column}
 
 -- the words are read as this command over files
@@ -28,9 +29,11 @@ pub record HelpIsRead : Type 0 where
   pub compile : (source prefix : List ℕ) → AreRead (codes "compile" ∷ source ∷ prefix ∷ []) (Compile source prefix most_search_budget)
   pub early : (source prefix : List ℕ) → form_of (codes "compile" ∷ source ∷ prefix ∷ codes "early" ∷ [])
       ≡ Some (Early (record { source = source; prefix = prefix; budget = most_search_budget }))
-  pub needs : (file : List ℕ) → AreRead (codes "needs" ∷ file ∷ []) (Needs (record { file = file; each = false; budget = most_search_budget }))
+  pub needs : (file : List ℕ) → AreRead (codes "needs" ∷ file ∷ []) (Needs (record { file = file; kind = needs_kind.Sizes; budget = most_search_budget }))
   pub needs_each : (file : List ℕ)
-      → AreRead (codes "needs" ∷ file ∷ codes "each" ∷ []) (Needs (record { file = file; each = true; budget = most_search_budget }))
+      → AreRead (codes "needs" ∷ file ∷ codes "each" ∷ []) (Needs (record { file = file; kind = needs_kind.Each; budget = most_search_budget }))
+  pub rounds : (file : List ℕ)
+      → AreRead (codes "rounds" ∷ file ∷ []) (Needs (record { file = file; kind = needs_kind.Rounds; budget = most_search_budget }))
   pub host : (program inputs deal : List ℕ) (addresses : List (List ℕ)) → form_of (codes "host" ∷ program ∷ inputs ∷ deal ∷ addresses)
       ≡ Some (Host (record { program = program; inputs = inputs; deal = deal; addresses = addresses; limit = None }))
   pub check : (program inputs deal : List ℕ) → form_of (codes "check" ∷ program ∷ inputs ∷ deal ∷ [])

@@ -22,13 +22,24 @@ pub struct ReplayWords {
     pub budget: u32,
 }
 
-/// The words of `needs FILE [each] [BUDGET]`.
+/// What is printed of what the programs of a source's hosts need.
+#[derive(Clone, Copy)]
+pub enum NeedsKind {
+    /// The first words of `deal`.
+    Sizes,
+    /// How many inputs and items each host and each two hosts take.
+    Each,
+    /// What a run costs: how much each host tells each other one.
+    Rounds,
+}
+
+/// The words of `needs FILE [each] [BUDGET]` and of `rounds FILE [BUDGET]`.
 #[derive(Drop)]
 pub struct NeedsWords {
     /// A source, or the program of a host.
     pub file: Text,
-    /// Whether the needs of each host and of each two hosts are told.
-    pub each: bool,
+    /// What is printed.
+    pub kind: NeedsKind,
     /// How many prefixes the search may open.
     pub budget: u32,
 }
@@ -145,7 +156,7 @@ pub enum FilesCommand {
     Certify(Text, Text),
     /// `compile SOURCE PREFIX [BUDGET]`.
     Compile(Text, Text, u32),
-    /// `needs FILE [each] [BUDGET]`.
+    /// `needs FILE [each] [BUDGET]`, or `rounds FILE [BUDGET]`.
     Needs(NeedsWords),
     /// `deal HOSTS OWN MULS ANDS PAIRS KEY PREFIX`.
     Deal(Counts, u64, Text),

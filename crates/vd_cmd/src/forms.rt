@@ -9,7 +9,7 @@ ghost use Rattle.vd_cmd.specs.declared.command.KeySource.TheVariants.{Drawn, InF
 
 use crate::command::{
     CheckWords, ColumnWords, Command, CommandFault, EarlyWords, ExcuseWords, FilesCommand,
-    KeyDealWords, KeySource, NeedsWords, ReplayWords, RevealsWords, RunWords,
+    KeyDealWords, KeySource, NeedsKind, NeedsWords, ReplayWords, RevealsWords, RunWords,
 };
 use std::alloc::{AllocError, Global};
 use vd_base::{Text, Texts};
@@ -183,15 +183,15 @@ pub(crate) fn early_of(
     }))
 }
 
-/// The command `needs` with this budget, if it is given.
+/// The command `needs` that prints this, or `rounds`, with this budget, if it is given.
 pub(crate) fn needs_of(
     alloc: Global,
     file: &Text,
-    each: bool,
+    kind: NeedsKind,
     budget: Option<u64>,
 ) -> Result<Command, CommandFault>
     requires { IfSome budget IsBudget }
-    ensures { Reads (needs_of file.now each budget) result }
+    ensures { Reads (needs_of file.now kind budget) result }
 {
     let Some(budget) = budget else {
         return Err(CommandFault::Usage);
@@ -199,7 +199,7 @@ pub(crate) fn needs_of(
     let file = Text::copy_of(alloc, file.as_str())?;
     Ok(Command::OnFiles(FilesCommand::Needs(NeedsWords {
         file,
-        each,
+        kind,
         budget: budget as u32,
     })))
 }

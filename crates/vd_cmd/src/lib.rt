@@ -10,7 +10,7 @@ mod reading;
 
 pub use command::{
     CheckWords, ColumnWords, Command, CommandFault, EarlyWords, ExcuseWords, FilesCommand,
-    HostWords, KeyDealWords, KeySource, NeedsWords, ReplayWords, RevealsWords, RunWords,
+    HostWords, KeyDealWords, KeySource, NeedsKind, NeedsWords, ReplayWords, RevealsWords, RunWords,
 };
 pub use help_words::help_is_read;
 pub use own::own_text;

@@ -2,7 +2,7 @@
 
 ghost use Rattle.std.specs.Prelude.{◌≡◌};
 ghost use Rattle.std.specs.Option.{option_map};
-ghost use Rattle.vd_cmd.specs.Own.{help_of, help_of_certify, help_of_check, help_of_choose, help_of_clear, help_of_column, help_of_compile, help_of_deal, help_of_depends, help_of_draw, help_of_excuse, help_of_gen, help_of_host, help_of_host_within, help_of_influences, help_of_labels, help_of_needs, help_of_replay, help_of_reveals, help_of_run, help_of_trial, help_text, help_to_run, help_to_trust, help_to_try, is_either, own_text_of, version_text};
+ghost use Rattle.vd_cmd.specs.Own.{help_of, help_of_certify, help_of_check, help_of_choose, help_of_clear, help_of_column, help_of_compile, help_of_deal, help_of_depends, help_of_draw, help_of_excuse, help_of_gen, help_of_host, help_of_host_within, help_of_influences, help_of_labels, help_of_needs, help_of_replay, help_of_reveals, help_of_rounds, help_of_run, help_of_trial, help_text, help_to_run, help_to_trust, help_to_try, is_either, own_text_of, version_text};
 
 use vd_base::Texts;
 
@@ -36,6 +36,9 @@ To run it:
                                 print the five numbers with which deal makes enough for the source FILE; with each,
                                 how many inputs and items each host and each two hosts take at most; where FILE is
                                 the program of a host, how many that host takes
+  viaduct rounds FILE [BUDGET]  print what a run of the source FILE costs, before anything is dealt: how many packets, words
+                                and bytes go from each host to each other one; where FILE is the program of a host,
+                                what goes out from that host
   viaduct column HOST FILE NAME[*FACTOR] ..
                                 print the section of HOST in an inputs file: of each row of the CSV file FILE, which has
                                 a header, the words of these columns, each times its FACTOR
@@ -212,6 +215,17 @@ fn help_of_needs() -> &'static str
   print the five numbers with which deal makes enough for the source FILE; with each,
   how many inputs and items each host and each two hosts take at most; where FILE is
   the program of a host, how many that host takes
+"
+}
+
+#[tactic(auto, unfolding(crate::specs::Own::help_of_rounds))]
+fn help_of_rounds() -> &'static str
+    ensures { result.now ≡ help_of_rounds }
+{
+    "viaduct rounds FILE [BUDGET]
+  print what a run of the source FILE costs, before anything is dealt: how many packets, words
+  and bytes go from each host to each other one; where FILE is the program of a host,
+  what goes out from that host
 "
 }
 
@@ -406,6 +420,8 @@ fn help_to_run(word: &str) -> Option<&'static str>
         Some(help_of_compile())
     } else if word == "needs" {
         Some(help_of_needs())
+    } else if word == "rounds" {
+        Some(help_of_rounds())
     } else if word == "column" {
         Some(help_of_column())
     } else if word == "deal" {

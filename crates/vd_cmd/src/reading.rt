@@ -4,7 +4,7 @@ ghost use Rattle.std.specs.Prelude.{◌≡◌, [], ◌∷◌, None, Some, IfSome
 ghost use Rattle.vd_cmd.specs.Commands.{Reads, AreWithin, IsWait, column_form_of, column_with, compile_with, counts_in, deal_in, excuse_form_of, fixed_form_of, form_of, host_form_of, key_file, limited_form_of, listed_form_of, needs_with, other_form_of, replay_with, reveals_with, unhosted_form_of};
 ghost use Rattle.vd_cmd.specs.declared.command.KeySource.TheVariants.{InFile};
 
-use crate::command::{Command, CommandFault, FilesCommand, HostWords};
+use crate::command::{Command, CommandFault, FilesCommand, HostWords, NeedsKind};
 use crate::forms::{
     certify_of, check_of, choose_of, clear_of, column_of, compile_of, copies, deal_drawn,
     deal_from_file, deal_of, depends_of, draw_of, early_of, excuse_of, gen_of, influences_of,
@@ -71,9 +71,9 @@ fn needs_with(alloc: Global, file: &Text, other: &Text) -> Result<Command, Comma
 {
     let most = u64::from(SEARCH_BUDGET);
     if other.as_str() == "each" {
-        needs_of(alloc, file, true, Some(most))
+        needs_of(alloc, file, NeedsKind::Each, Some(most))
     } else {
-        needs_of(alloc, file, false, number_within(1, most, other))
+        needs_of(alloc, file, NeedsKind::Sizes, number_within(1, most, other))
     }
 }
 
@@ -122,7 +122,19 @@ fn two_words(alloc: Global, word: &Text, argument: &Text) -> Result<Command, Com
     } else if word.as_str() == "reveals" {
         reveals_all(alloc, argument, Some(u64::from(SEARCH_BUDGET)))
     } else if word.as_str() == "needs" {
-        needs_of(alloc, argument, false, Some(u64::from(SEARCH_BUDGET)))
+        needs_of(
+            alloc,
+            argument,
+            NeedsKind::Sizes,
+            Some(u64::from(SEARCH_BUDGET)),
+        )
+    } else if word.as_str() == "rounds" {
+        needs_of(
+            alloc,
+            argument,
+            NeedsKind::Rounds,
+            Some(u64::from(SEARCH_BUDGET)),
+        )
     } else if word.as_str() == "gen" {
         gen_of(number_within(1, u64::from(COORDINATES), argument))
     } else if word.as_str() == "trial" {
@@ -160,6 +172,13 @@ fn three_words(
         compile_of(alloc, source, other, Some(most))
     } else if word.as_str() == "needs" {
         needs_with(alloc, source, other)
+    } else if word.as_str() == "rounds" {
+        needs_of(
+            alloc,
+            source,
+            NeedsKind::Rounds,
+            number_within(1, most, other),
+        )
     } else {
         Err(CommandFault::Usage)
     }
@@ -181,7 +200,7 @@ fn four_words(
         check_of(alloc, first, second, third)
     } else if word.as_str() == "needs" && second.as_str() == "each" {
         let budget = number_within(1, u64::from(SEARCH_BUDGET), third);
-        needs_of(alloc, first, true, budget)
+        needs_of(alloc, first, NeedsKind::Each, budget)
     } else if word.as_str() == "reveals" {
         let budget = number_within(1, u64::from(SEARCH_BUDGET), third);
         reveals_one(alloc, first, second, budget)
