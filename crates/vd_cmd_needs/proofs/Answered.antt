@@ -17,11 +17,11 @@ use Rattle.vd_cmd_plan.specs.Programs.{ProgramOutcomes}
 -- ---- with the bytes of a file
 
 module _ (words : NeedsWords) (bytes : List ℕ) (result : Result Answer Status) where
-  pub of_host : is_program_text bytes ≡ true → ExecutesHost bytes result → ExecutesBytes words bytes result
+  pub of_host : is_program_text bytes ≡ true → ExecutesHost words.kind bytes result → ExecutesBytes words bytes result
   of_host is executes = (
     GaveUp,
     λ certificates choices texts programs least files.
-        subst (λ (b : Bool). Executes true (if b then host_plan programs bytes else text_plan texts least choices (searched_by certificates choices GaveUp) words bytes) files files result) (sym is)
+        subst (λ (b : Bool). Executes true (if b then host_plan programs words.kind bytes else text_plan texts least choices (searched_by certificates choices GaveUp) words bytes) files files result) (sym is)
         (executes programs files),
   )
 
@@ -29,7 +29,7 @@ module _ (words : NeedsWords) (bytes : List ℕ) (result : Result Answer Status)
   of_text is executes = (
     executes.0,
     λ certificates choices texts programs least files.
-        subst (λ (b : Bool). Executes true (if b then host_plan programs bytes else text_plan texts least choices (searched_by certificates choices executes.0) words bytes) files files result) (sym is)
+        subst (λ (b : Bool). Executes true (if b then host_plan programs words.kind bytes else text_plan texts least choices (searched_by certificates choices executes.0) words bytes) files files result) (sym is)
         (executes.1 certificates choices texts least files),
   )
 

@@ -1,4 +1,5 @@
 pub mod Front
+mod Rounding
 mod Reading
 mod Answered
 mod Told

@@ -20,10 +20,10 @@ either_follows false host sure plan files follows = follows
 module _ (texts : TextOutcomes) (programs : ProgramOutcomes) (least : LabelOutcomes) (certificates : CertificateOutcomes) (choices : ChoiceOutcomes) (searched : Searched) (words : NeedsWords) (files : Contents) where
   text_follows : (bytes : List ℕ) → Follows (text_plan texts least choices (sure_search choices) words bytes files) (text_plan texts least choices (searched_by certificates choices searched) words bytes files)
   text_follows bytes =
-      text_choice_follows texts least certificates choices searched words.file words.budget files bytes (λ c. answer_then (needs_answer words.each c)) (λ program l one other. refl)
+      text_choice_follows texts least certificates choices searched words.file words.budget files bytes (λ c. answer_then (needs_answer words.kind c)) (λ program l one other. refl)
 
   pub needs_follows : Follows (needs_plan texts programs least choices (sure_search choices) words files) (needs_plan texts programs least choices (searched_by certificates choices searched) words files)
   needs_follows =
       file_follows words.file most_host_file_bytes (bytes_plan texts programs least choices (sure_search choices) words) (bytes_plan texts programs least choices (searched_by certificates choices searched) words) files
-      (λ bytes. either_follows (is_program_text bytes) (host_plan programs bytes) (text_plan texts least choices (sure_search choices) words bytes)
+      (λ bytes. either_follows (is_program_text bytes) (host_plan programs words.kind bytes) (text_plan texts least choices (sure_search choices) words bytes)
       (text_plan texts least choices (searched_by certificates choices searched) words bytes) files (text_follows bytes))

@@ -11,9 +11,9 @@ needs_text-requires c = can_run c.args.program.now c.args.assignment.now c.form-
 pub returns-clause-computes : goal.returns-clause-computes
 returns-clause-computes c =
     prints c.printing.result c.in_ok-printed.printed _ c.printing.ensures
-    (c.in_ok-printed.ensures {u = tt} ∙ ap (λ (l : List Proto). needs_text c.args.each c.args.program.now l) c.as_slice-protocols.ensures)
+    (c.in_ok-printed.ensures {u = tt} ∙ ap (λ (l : List Proto). needs_text c.args.kind c.args.program.now l) c.as_slice-protocols.ensures)
 
 pub returns-clause-tells : goal.returns-clause-tells
 returns-clause-tells c =
-    needs_told c.args.each c.args.program.now c.args.assignment.now c.form-form.ensures.well_made c.form-form.ensures.fit c.requires c.printing.result c.in_ok-printed.printed
+    needs_told c.args.kind c.args.program.now c.args.assignment.now c.form-form.ensures.well_made c.form-form.ensures.fit c.requires c.printing.result c.in_ok-printed.printed
     c.as_slice-protocols.result.now c.printing.ensures (c.in_ok-printed.ensures {u = tt}) c.as_slice-protocols.ensures

@@ -17,16 +17,16 @@ no_assignment-requires c = c.requires.least
 pub returns-in-Some-clause-computes : goal.returns-in-Some-clause-computes
 returns-in-Some-clause-computes c =
     let choice = c.args.choice in
-    assigned_computes (labelled_form choice.program choice.labels) (λ (a : Assignment). ended [] (needs_text c.args.each choice.program a.protocols)) choice.assignment (Some c.in-Some.assignment) c.needs_at.result c.in-Some.is c.needs_at.ensures.computes
+    assigned_computes (labelled_form choice.program choice.labels) (λ (a : Assignment). ended [] (needs_text c.args.kind choice.program a.protocols)) choice.assignment (Some c.in-Some.assignment) c.needs_at.result c.in-Some.is c.needs_at.ensures.computes
 
 pub returns-in-Some-clause-tells : goal.returns-in-Some-clause-tells
-returns-in-Some-clause-tells c = told_then c.args.each c.args.choice.program c.needs_at.result c.needs_at.ensures.tells
+returns-in-Some-clause-tells c = told_then c.args.kind c.args.choice.program c.needs_at.result c.needs_at.ensures.tells
 
 pub returns-in-None-clause-computes : goal.returns-in-None-clause-computes
 returns-in-None-clause-computes c =
     let choice = c.args.choice in
-    assigned_computes (labelled_form choice.program choice.labels) (λ (a : Assignment). ended [] (needs_text c.args.each choice.program a.protocols)) choice.assignment None _ c.in-None.is
+    assigned_computes (labelled_form choice.program choice.labels) (λ (a : Assignment). ended [] (needs_text c.args.kind choice.program a.protocols)) choice.assignment None _ c.in-None.is
     (none_computes (labelled_form choice.program choice.labels) c.no_assignment.result c.no_assignment.ensures)
 
 pub returns-in-None-clause-tells : goal.returns-in-None-clause-tells
-returns-in-None-clause-tells c = none_told c.args.each c.args.choice.program (labelled_form c.args.choice.program c.args.choice.labels) c.no_assignment.result c.no_assignment.ensures
+returns-in-None-clause-tells c = none_told c.args.kind c.args.choice.program (labelled_form c.args.choice.program c.args.choice.labels) c.no_assignment.result c.no_assignment.ensures

@@ -26,7 +26,7 @@ returns-in_err-expect_short-clause-executes c = (
       let refused = rw c.as_str.ensures at ((c.in_err-expect_short.ensures {u = tt}).refused texts) in
       rw (p.1, p.2)
       (tree_refused texts least words.file c.args.bytes.now files c.in_err-expect_short.field-0.0 refused
-      (λ program. choice_of_then least choices (searched_by certificates choices GaveUp) words.budget program (λ x. answer_then (needs_answer words.each x)))),
+      (λ program. choice_of_then least choices (searched_by certificates choices GaveUp) words.budget program (λ x. answer_then (needs_answer words.kind x)))),
 )
 
 pub returns-in_err-program-clause-executes : goal.returns-in_err-program-clause-executes
@@ -34,23 +34,23 @@ returns-in_err-program-clause-executes c =
     let p = err_from_is_err_and c.from_residual-in_err-program.result c.from_residual-in_err-program.ensures.1 in
     let words = c.args.words.now in
     rw (p.1, p.2)
-    (text_refused words.file c.args.bytes.now words.budget (λ x. answer_then (needs_answer words.each x)) c.in_err-program.field-0.0 (c.in_err-program.ensures {u = tt}).reads)
+    (text_refused words.file c.args.bytes.now words.budget (λ x. answer_then (needs_answer words.kind x)) c.in_err-program.field-0.0 (c.in_err-program.ensures {u = tt}).reads)
 
 pub returns-in_err-choice-clause-executes : goal.returns-in_err-choice-clause-executes
 returns-in_err-choice-clause-executes c =
     let p = err_from_is_err_and c.from_residual-in_err-choice.result c.from_residual-in_err-choice.ensures.1 in
     let words = c.args.words.now in
     rw (p.1, p.2)
-    (text_choice_refused words.file c.args.bytes.now words.budget (λ x. answer_then (needs_answer words.each x)) c.in_ok-program.program c.in_err-choice.field-0.0
+    (text_choice_refused words.file c.args.bytes.now words.budget (λ x. answer_then (needs_answer words.kind x)) c.in_ok-program.program c.in_err-choice.field-0.0
     (c.in_ok-program.ensures {u = tt}).reads (c.in_err-choice.ensures {u = tt}).chooses)
 
 pub returns-clause-executes : goal.returns-clause-executes
 returns-clause-executes c =
     let words = c.args.words.now in
     let choice = c.in_ok-choice.choice in
-    text_then words.file c.args.bytes.now words.budget (λ x. answer_then (needs_answer words.each x)) c.in_ok-program.program choice c.needs_choice.result
+    text_then words.file c.args.bytes.now words.budget (λ x. answer_then (needs_answer words.kind x)) c.in_ok-program.program choice c.needs_choice.result
     (c.in_ok-program.ensures {u = tt}).reads (c.in_ok-choice.ensures {u = tt}).chooses
-    (λ files. answers (needs_answer words.each (chosen_of choice)) files c.needs_choice.result c.needs_choice.ensures.computes)
+    (λ files. answers (needs_answer words.kind (chosen_of choice)) files c.needs_choice.result c.needs_choice.ensures.computes)
 
 pub returns-clause-tells : goal.returns-clause-tells
 returns-clause-tells c =
