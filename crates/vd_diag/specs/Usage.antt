@@ -12,6 +12,7 @@ usage_table =
     ∷ (codes "certify", codes "usage: viaduct certify SOURCE CERT\n")
     ∷ (codes "compile", codes "usage: viaduct compile SOURCE PREFIX [early] [BUDGET]\n")
     ∷ (codes "needs", codes "usage: viaduct needs FILE [each] [BUDGET]\n")
+    ∷ (codes "rounds", codes "usage: viaduct rounds FILE [BUDGET]\n")
     ∷ (codes "column", codes "usage: viaduct column HOST FILE NAME[*FACTOR] ..\n")
     ∷ (codes "deal", codes "usage: viaduct deal HOSTS OWN MULS ANDS PAIRS KEY PREFIX\n")
     ∷ (codes "replay", codes "usage: viaduct replay SOURCE INPUTS PREFIX SCHEDULE [messages] [BUDGET]\n")

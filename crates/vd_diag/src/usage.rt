@@ -5,7 +5,7 @@ ghost use Rattle.vd_diag.specs.Usage as usage;
 
 use crate::tables::in_table;
 
-const USAGES: [(&[u8], &[u8]); 20] = [
+const USAGES: [(&[u8], &[u8]); 21] = [
     (b"clear", b"usage: viaduct clear SOURCE INPUTS\n"),
     (b"labels", b"usage: viaduct labels SOURCE\n"),
     (b"choose", b"usage: viaduct choose SOURCE [BUDGET]\n"),
@@ -20,6 +20,7 @@ const USAGES: [(&[u8], &[u8]); 20] = [
         b"usage: viaduct compile SOURCE PREFIX [early] [BUDGET]\n",
     ),
     (b"needs", b"usage: viaduct needs FILE [each] [BUDGET]\n"),
+    (b"rounds", b"usage: viaduct rounds FILE [BUDGET]\n"),
     (
         b"column",
         b"usage: viaduct column HOST FILE NAME[*FACTOR] ..\n",

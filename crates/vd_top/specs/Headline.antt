@@ -73,15 +73,16 @@ KeepsInfluence words before out_before out_now status =
     (source name : List ℕ) → form_of words ≡ Some (OnFiles (Influences source name)) → IsTrue before.told → IsTrue out_now.told → status ≡ Ended
     → PrintsInfluence source name before out_before out_now
 
--- the bytes that were added tell what the hosts of a source take, or the host of a program
+-- the bytes that were added tell what the hosts of a source take, or tell each other, or the host of a program
 pub record PrintsNeeds (words : NeedsWords) (before : FilesView) (out_before out_now : SinkView) : Type 0 where
   pub printed : List ℕ
   pub added : out_now.taken ≡ out_before.taken ++ printed
   pub needs : IsNeeds words before.contents printed
 
--- Where the words are those of `needs`, and the files and the output tell what they hold, a run with status 0 has printed how much to
+-- Where the words are those of `needs` or `rounds`, and the files and the output tell what they hold, a run with status 0 has printed how much to
 -- deal for the source: every deal of these sizes suffices for all inputs under every schedule, and where no branch takes differently
--- no smaller one does. Of the program of a host it has printed what that host takes at most.
+-- no smaller one does; or what each host tells each other one, at least and at most. Of the program of a host it has printed what that
+-- host takes at most, or tells.
 abbrev pub KeepsNeeds : (words : List (List ℕ)) → FilesView → SinkView → SinkView → Status → Type 0
 KeepsNeeds words before out_before out_now status =
     (needs : NeedsWords) → form_of words ≡ Some (OnFiles (Needs needs)) → IsTrue before.told → IsTrue out_now.told → status ≡ Ended
