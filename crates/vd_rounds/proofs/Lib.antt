@@ -1,3 +1,4 @@
 pub mod Front
 mod TallyText
 mod TallyRuns
+mod ClockBounds

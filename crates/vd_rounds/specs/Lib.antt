@@ -1,3 +1,4 @@
 pub mod Tallies
 pub mod TallyLaws
 pub mod Loads
+pub mod Clocks
