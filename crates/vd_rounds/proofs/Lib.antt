@@ -2,3 +2,4 @@ pub mod Front
 mod TallyText
 mod TallyRuns
 mod ClockBounds
+mod LoadBytes

@@ -1,7 +1,9 @@
 -- What goes from one host to another: packets, words and bytes.
-use Rattle.std.specs.Prelude.{ℕ, ◌+◌, ◌*◌, ◌<◌}
+use Rattle.std.specs.Prelude.{◌≡◌, ℕ, ◌+◌, ◌*◌, ◌<◌, List, length}
 use Rattle.vd_base.specs.declared.ids.HostId.{HostId}
 use Rattle.vd_execution.specs.Code.{Code}
+use Rattle.vd_execution.specs.World.{words_of}
+use Rattle.vd_link.specs.Frames.{frames, greeting}
 use Rattle.vd_rounds.specs.declared.loads.Load.{Load}
 use Rattle.vd_rounds.specs.declared.loads.Traffic.{Traffic}
 use Rattle.vd_rounds.specs.declared.tallies.Bound.{Bound}
@@ -31,3 +33,12 @@ plain_bytes load = 36 + 2 * load.packets + 4 * load.words
 -- bytes more than what it seals
 abbrev pub sealed_bytes : Load → ℕ
 sealed_bytes load = 68 + 34 + (34 + 36) + 36 * load.packets + 4 * load.words
+
+-- what these packets come to
+abbrev pub load_in : List (List ℕ) → Load
+load_in packets = record { packets = length packets; words = length (words_of packets) }
+
+-- A greeting and these packets have as many bytes as is counted of a link that is not sealed.
+abbrev pub BytesAreCounted : Type 0
+BytesAreCounted = (plan : List ℕ) (from to : ℕ) (packets : List (List ℕ)) → length plan ≡ 32
+    → length (greeting plan from to) + length (frames packets) ≡ plain_bytes (load_in packets)

@@ -1,6 +1,7 @@
 //! What holds of the counts along each run. The functions here do nothing: their contracts are laws.
 
 ghost use Rattle.vd_rounds.specs.Clocks.{RoundsAreReadOff};
+ghost use Rattle.vd_rounds.specs.Loads.{BytesAreCounted};
 ghost use Rattle.vd_rounds.specs.TallyLaws.{HostsTellWithin, SchedulesTellWithin};
 
 /// Whatever words a host is given, it tells each other one at most what is counted of its code where of each branch the block that tells
@@ -14,4 +15,9 @@ pub fn hosts_tell_within()
 /// code where of each branch the later clock counts, or below what is read off where the earlier one does.
 pub fn rounds_are_read_off()
     ensures { RoundsAreReadOff }
+{}
+
+/// A greeting and packets have as many bytes as is counted of their packets and words.
+pub fn bytes_are_counted()
+    ensures { BytesAreCounted }
 {}
