@@ -3,9 +3,10 @@ use Rattle.std.proofs.Common.{◌≡◌, Bool, true, false, ◌&&◌, ℕ, Optio
 use Rattle.std.proofs.lemmas.Bool.{lt-ltb}
 use Rattle.std.specs.Prelude.{is_some}
 use Rattle.vd_base.specs.Limits.{most_search_budget}
-use Rattle.vd_cmd.specs.Commands.{reveals_of}
+use Rattle.vd_cmd.specs.Commands.{depends_of, reveals_of}
 use Rattle.vd_cmd.specs.Numbers.{number_within}
 use Rattle.vd_cmd.specs.HelpRead.{HelpIsRead}
+use Rattle.vd_cmd.proofs.Commas.{group_is}
 
 both_hold : {A : Type 0} (x : A) (s t : Bool) → s ≡ true → t ≡ true → (if s && t then Some x else None) ≡ Some x
 both_hold x true true a b = refl
@@ -29,7 +30,7 @@ help_read = record {
   host = λ a b c d. refl;
   check = λ a b c. refl;
   certify = λ a b. refl;
-  depends = λ a b. refl;
+  depends = λ source first others are new. ap (depends_of source) (group_is first others are new);
   influences = λ a b. refl;
   column = λ a b c d named. both_hold _ _ _ named (lt-ltb 0 (length (c ∷ d)) (omega (arith)));
   excuse = λ a b c d e f. refl;

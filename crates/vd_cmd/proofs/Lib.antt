@@ -1,4 +1,5 @@
 mod Behind
+mod Commas
 mod Keys
 mod Values
 mod Words

@@ -5,6 +5,7 @@ use Rattle.vd_base.specs.Lexical.{is_name}
 use Rattle.vd_base.specs.Limits.{most_hosts, most_deal_items, most_search_budget}
 use Rattle.vd_tape.specs.declared.deal_items.deal.Counts.{Counts}
 use Rattle.vd_gen.specs.Sizes.{most_coordinates}
+use Rattle.vd_cmd.specs.Groups.{group_of}
 use Rattle.vd_cmd.specs.Numbers.{number_within}
 use Rattle.vd_cmd.specs.declared.command.Command.{Command}
 use Rattle.vd_cmd.specs.declared.command.Command.TheVariants.{OnFiles, KeyDeal, Early, Host, Check, Run}
@@ -128,6 +129,11 @@ excuse_form_of (source ∷ inputs ∷ second ∷ prefix ∷ host ∷ out ∷ bud
     excuse_of source inputs second prefix host out (number_within 1 most_search_budget budget)
 excuse_form_of words = None
 
+-- the hosts of several names, or of one
+abbrev pub depends_of : (source : List ℕ) → (names : Option (List (List ℕ))) → Option Command
+depends_of source (Some names) = Some (OnFiles (Depends source names))
+depends_of source None = None
+
 -- the first port of a run: those behind it serve all pairs of hosts
 abbrev pub least_port : ℕ
 least_port = 1024
@@ -154,7 +160,7 @@ fixed_form_of (word ∷ argument ∷ []) =
 fixed_form_of (word ∷ source ∷ other ∷ []) =
     if bytes_eq word (codes "clear") then Some (OnFiles (Clear source other))
     else if bytes_eq word (codes "certify") then Some (OnFiles (Certify source other))
-    else if bytes_eq word (codes "depends") then Some (OnFiles (Depends source other))
+    else if bytes_eq word (codes "depends") then depends_of source (group_of other)
     else if bytes_eq word (codes "influences") then Some (OnFiles (Influences source other))
     else if bytes_eq word (codes "choose") then choose_of source (number_within 1 most_search_budget other)
     else if bytes_eq word (codes "draw") then draw_of source (number_within 1 most_search_budget other)

@@ -1,8 +1,10 @@
 -- The words that the help says, read.
-use Rattle.std.specs.Prelude.{◌≡◌, ℕ, IsTrue, ◌-◌, ◌^◌, true, false, List, [], ◌∷◌, Some, None, codes}
+use Rattle.std.specs.Prelude.{◌≡◌, ℕ, IsTrue, ◌-◌, ◌^◌, true, false, List, [], ◌∷◌, ◌++◌, flat_map, Some, None, codes}
+use Rattle.std.specs.List.{list_all}
 use Rattle.vd_base.specs.Lexical.{is_name}
 use Rattle.vd_base.specs.Limits.{most_search_budget}
 use Rattle.vd_cmd.specs.Commands.{form_of}
+use Rattle.vd_cmd.specs.Groups.{are_new}
 use Rattle.vd_cmd.specs.declared.command.Command.TheVariants.{OnFiles, Early, Host, Check}
 use Rattle.vd_cmd.specs.Numbers.{number_within}
 use Rattle.vd_cmd.specs.declared.command.FilesCommand.{FilesCommand}
@@ -39,7 +41,8 @@ pub record HelpIsRead : Type 0 where
   pub check : (program inputs deal : List ℕ) → form_of (codes "check" ∷ program ∷ inputs ∷ deal ∷ [])
       ≡ Some (Check (record { program = program; inputs = inputs; deal = deal }))
   pub certify : (source cert : List ℕ) → AreRead (codes "certify" ∷ source ∷ cert ∷ []) (Certify source cert)
-  pub depends : (source host : List ℕ) → AreRead (codes "depends" ∷ source ∷ host ∷ []) (Depends source host)
+  pub depends : (source first : List ℕ) (others : List (List ℕ)) → list_all is_name (first ∷ others) ≡ true → are_new (first ∷ others) ≡ true
+      → AreRead (codes "depends" ∷ source ∷ (first ++ flat_map (λ other. 0x2c ∷ other) others) ∷ []) (Depends source (first ∷ others))
   pub influences : (source host : List ℕ) → AreRead (codes "influences" ∷ source ∷ host ∷ []) (Influences source host)
   pub column : (host file first : List ℕ) (columns : List (List ℕ)) → IsTrue (is_name host)
       → AreRead (codes "column" ∷ host ∷ file ∷ first ∷ columns) (Column (record { host = host; file = file; columns = first ∷ columns }))

@@ -1,4 +1,5 @@
 pub mod Numbers
+pub mod Groups
 pub mod Commands
 pub mod Own
 pub mod HelpRead

@@ -164,8 +164,8 @@ pub enum FilesCommand {
     Replay(ReplayWords),
     /// `excuse SOURCE INPUTS INPUTS2 PREFIX HOST OUT [BUDGET]`.
     Excuse(ExcuseWords),
-    /// `depends SOURCE HOST`.
-    Depends(Text, Text),
+    /// `depends SOURCE HOSTS`: the names of these hosts.
+    Depends(Text, Texts),
     /// `influences SOURCE HOST`.
     Influences(Text, Text),
     /// `column HOST FILE NAME[*FACTOR] ..`.

@@ -2,15 +2,17 @@
 
 ghost use Rattle.std.specs.Prelude.{◌≡◌, None, Some, IfOk, IfSome, IsTrue};
 ghost use Rattle.vd_base.specs.Lexical.{is_name};
-ghost use Rattle.vd_cmd.specs.Commands.{Reads, AreWithin, IsBudget, IsPort, IsSize, choose_of, compile_of, deal_of, draw_of, early_of, excuse_of, gen_of, key_deal_of, needs_of, replay_of, reveals_of, run_of, trial_of};
+ghost use Rattle.vd_cmd.specs.Commands.{Reads, AreWithin, IsBudget, IsPort, IsSize, choose_of, compile_of, deal_of, depends_of, draw_of, early_of, excuse_of, gen_of, key_deal_of, needs_of, replay_of, reveals_of, run_of, trial_of};
 ghost use Rattle.vd_cmd.specs.declared.command.Command.TheVariants.{Check, OnFiles};
-ghost use Rattle.vd_cmd.specs.declared.command.FilesCommand.TheVariants.{Clear, Certify, Column, Depends, Influences};
+ghost use Rattle.vd_cmd.specs.declared.command.FilesCommand.TheVariants.{Clear, Certify, Column, Influences};
+ghost use Rattle.vd_cmd.specs.Groups.{group_of};
 ghost use Rattle.vd_cmd.specs.declared.command.KeySource.TheVariants.{Drawn, InFile};
 
 use crate::command::{
     CheckWords, ColumnWords, Command, CommandFault, EarlyWords, ExcuseWords, FilesCommand,
     KeyDealWords, KeySource, NeedsKind, NeedsWords, ReplayWords, RevealsWords, RunWords,
 };
+use crate::groups::{are_new, between_commas};
 use std::alloc::{AllocError, Global};
 use vd_base::{Text, Texts};
 use vd_tape::Counts;
@@ -419,12 +421,16 @@ pub(crate) fn certify_of(
     Ok(Command::OnFiles(FilesCommand::Certify(source, certificate)))
 }
 
-/// The command `depends`.
-pub(crate) fn depends_of(alloc: Global, source: &Text, host: &Text) -> Result<Command, CommandFault>
-    ensures { Reads (Some (OnFiles (Depends source.now host.now))) result }
+/// The command `depends` of the hosts that a word names, if none of its names is empty or stands twice.
+pub(crate) fn depends_of(alloc: Global, source: &Text, word: &Text) -> Result<Command, CommandFault>
+    ensures { Reads (depends_of source.now (group_of word.now)) result }
 {
-    let (source, host) = both(alloc, source, host)?;
-    Ok(Command::OnFiles(FilesCommand::Depends(source, host)))
+    if !are_new(word.as_str()) {
+        return Err(CommandFault::Usage);
+    }
+    let source = Text::copy_of(alloc, source.as_str())?;
+    let names = between_commas(alloc, word.as_str())?;
+    Ok(Command::OnFiles(FilesCommand::Depends(source, names)))
 }
 
 /// The command `influences`.

@@ -3,6 +3,7 @@
 
 mod command;
 mod forms;
+mod groups;
 mod help_words;
 mod numbers;
 mod own;

@@ -64,8 +64,8 @@ To trust it:
   viaduct reveals SOURCE [HOST] [BUDGET]
                                 print a line for each word that comes to HOST, or to each host, in clear at the choice of
                                 choose: where it is made, its name, where it comes from, how often at most, and what for
-  viaduct depends SOURCE HOST   print the hosts whose inputs can bear on HOST's outputs, outside of what is
-                                declassified to it
+  viaduct depends SOURCE HOSTS  print the hosts whose inputs can bear on the outputs to HOSTS, a name or several with
+                                commas between them, outside of what is declassified to each of these
   viaduct influences SOURCE HOST
                                 print the hosts whose inputs can bear on HOST's outputs at all, and then those
                                 of them whose inputs can do so through endorsements alone
@@ -306,9 +306,9 @@ fn help_of_reveals() -> &'static str
 fn help_of_depends() -> &'static str
     ensures { result.now ≡ help_of_depends }
 {
-    "viaduct depends SOURCE HOST
-  print the hosts whose inputs can bear on HOST's outputs, outside of what is
-  declassified to it
+    "viaduct depends SOURCE HOSTS
+  print the hosts whose inputs can bear on the outputs to HOSTS, a name or several with
+  commas between them, outside of what is declassified to each of these
 "
 }
 
