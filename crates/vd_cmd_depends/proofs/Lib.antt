@@ -1,6 +1,7 @@
 pub mod Front
 mod Existing
 mod Naming
+mod Group
 mod Told
 mod Influence
 mod ReadBack

@@ -1,5 +1,5 @@
 -- The lines of hosts are read back.
-use Rattle.std.proofs.Common.{◌≡◌, ℕ, zero, suc, ◌+◌, ◌<◌, ◌≤◌, ◌^◌, Bool, true, false, cond, ◌&&◌, not, if◌then◌else◌, List, [], ◌∷◌, ◌++◌, length, map, slice_index_or, refl, sym, ap, ◌∙◌, subst, append-nil, append_assoc, arith}
+use Rattle.std.proofs.Common.{◌≡◌, ℕ, zero, suc, ◌+◌, ◌<◌, ◌≤◌, ◌^◌, Bool, true, false, cond, ◌&&◌, not, if◌then◌else◌, List, [], ◌∷◌, ◌++◌, length, map, slice_index_or, refl, sym, ap, ◌∙◌, subst, append-nil, append_assoc, length-append, arith}
 use Rattle.std.specs.Prelude.{filter, flat_map}
 use Rattle.std.specs.Fmt.{decimal}
 use Rattle.std.specs.List.{list_all, range_with_len}
@@ -10,12 +10,12 @@ use Rattle.vd_base.specs.HostSets.{has_host, host, hosts, members}
 use Rattle.vd_base.specs.Lexical.{is_name}
 use Rattle.vd_base.specs.declared.ids.HostId.{HostId}
 use Rattle.vd_base.specs.declared.protocols.HostSet.{HostSet}
-use Rattle.vd_report.specs.LineWords.{line_words}
+use Rattle.vd_report.specs.LineWords.{is_inside, line_words}
 use Rattle.vd_report.specs.Lines.{number_field}
-use Rattle.vd_report.proofs.Front.{AreRead, name_text, number_text, one_read, word_read}
-use Rattle.vd_cmd_depends.specs.Depending.{hosts_line, name_field}
+use Rattle.vd_report.proofs.Front.{AreRead, IsText, name_text, number_text, one_read, word_read}
+use Rattle.vd_cmd_depends.specs.Depending.{hosts_line, in_some, joined_names, name_field, other_name}
 use Rattle.vd_cmd_depends.specs.Influencing.{hosts_field, influence_line, lacked}
-use Rattle.vd_cmd_depends.specs.ReadBack.{AreNamed, LinesAreRead, LinesNameHosts, counted, named}
+use Rattle.vd_cmd_depends.specs.ReadBack.{AllAreNamed, AreNamed, in_any, LinesAreRead, counted, named}
 
 abbrev has_name : List (List ℕ) → HostId → Bool
 has_name names h = is_name (named names h)
@@ -53,6 +53,14 @@ name_is [] k are inside = absurd (omega arith)
 name_is (name ∷ names) zero are inside = (and_parts (is_name name) (list_all is_name names) are).0
 name_is (name ∷ names) (suc k) are inside = name_is names k (and_parts (is_name name) (list_all is_name names) are).1 (omega arith)
 
+-- bytes of which none parts words
+abbrev IsSolid : List ℕ → Type 0
+IsSolid word = list_all is_inside word ≡ true
+
+solid_both : (front more : List ℕ) → IsSolid front → IsSolid more → IsSolid (front ++ more)
+solid_both [] more a b = b
+solid_both (c ∷ front) more a b = let parts = and_parts (is_inside c) (list_all is_inside front) a in and_from (is_inside c) (list_all is_inside (front ++ more)) parts.0 (solid_both front more parts.1 b)
+
 -- ---- names behind words
 
 module _ (names : List (List ℕ)) where
@@ -86,15 +94,30 @@ module _ (names : List (List ℕ)) where
     picked text words p first =
         field_read text words (filter p (hosts (length names))) first (picked_named names p (hosts (length names)) (hosts_named names are.1.0)) (few p)
 
+    -- names with commas between them are one word
+    others_solid : (others : List HostId) → AllAreNamed names others → IsSolid (flat_map (other_name names) others)
+    others_solid [] all = refl
+    others_solid (k ∷ others) all =
+        solid_both (other_name names k) (flat_map (other_name names) others) (name_text (named names k) (name_is names k.0 all.0.1.0 all.0.1.1)).0 (others_solid others all.1)
+
+    group_text : (others : List HostId) → AllAreNamed names others → IsText (joined_names names (h ∷ others))
+    group_text others all =
+        let first = name_text (named names h) (name_is names h.0 are.1.0 are.1.1) in
+        let sizes = length-append (named names h) (flat_map (other_name names) others) in
+        let some = first.1 in
+        (solid_both (named names h) (flat_map (other_name names) others) first.0 (others_solid others all), omega (arith, sizes, some))
+
     first_read : AreRead (named names h) (named names h ∷ [])
     first_read = one_read (named names h) (name_text (named names h) (name_is names h.0 are.1.0 are.1.1))
 
-    depends_read : (set : HostSet) → line_words (hosts_line names h set) ≡ named names h ∷ counted names (members (length names) set)
-    depends_read set =
-        let list = members (length names) set in
-        ap (λ (t : List ℕ). line_words (named names h ++ t)) (sym (append_assoc (number_field (length list)) (flat_map (name_field names) list) (10 ∷ [])))
-        ∙ ap line_words (sym (append_assoc (named names h) (hosts_field names list) (10 ∷ [])))
-        ∙ (picked (named names h) (named names h ∷ []) (has_host set) first_read).end
+    depends_read : (others : List HostId) (sets : List HostSet) → AllAreNamed names others
+        → line_words (hosts_line names (h ∷ others) sets) ≡ joined_names names (h ∷ others) ∷ counted names (in_any (length names) sets)
+    depends_read others sets all =
+        let list = filter (in_some sets) (hosts (length names)) in
+        let word = joined_names names (h ∷ others) in
+        ap (λ (t : List ℕ). line_words (word ++ t)) (sym (append_assoc (number_field (length list)) (flat_map (name_field names) list) (10 ∷ [])))
+        ∙ ap line_words (sym (append_assoc word (hosts_field names list) (10 ∷ [])))
+        ∙ (picked word (word ∷ []) (in_some sets) (one_read word (group_text others all))).end
 
     influences_read : (all direct : HostSet) → line_words (influence_line names h all direct)
         ≡ named names h ∷ counted names (members (length names) all) ++ counted names (lacked (length names) all direct)

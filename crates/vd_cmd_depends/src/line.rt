@@ -1,9 +1,9 @@
 //! The lines that name the hosts that a host depends on.
 
-ghost use Rattle.std.specs.Prelude.{◌≡◌, ◌++◌, ◌∷◌, ◌≤◌, ◌&&◌, [], IfOk, OnOk, flat_map, if◌then◌else◌, length, not};
-ghost use Rattle.vd_base.specs.HostSets.{has_host, members};
+ghost use Rattle.std.specs.Prelude.{◌≡◌, ◌++◌, ◌∷◌, ◌≤◌, ◌&&◌, [], IfOk, OnOk, filter, flat_map, if◌then◌else◌, length, not};
+ghost use Rattle.vd_base.specs.HostSets.{has_host, hosts, members};
 ghost use Rattle.vd_base.specs.Limits.{most_hosts};
-ghost use Rattle.vd_cmd_depends.specs.Depending.{hosts_line, name_field};
+ghost use Rattle.vd_cmd_depends.specs.Depending.{hosts_line, in_some, joined_names, name_field, other_name};
 ghost use Rattle.vd_cmd_depends.specs.Influencing.{hosts_field, influence_line, lacked};
 ghost use Rattle.vd_report.specs.Lines.{number_field};
 
@@ -12,19 +12,19 @@ use std::alloc::{AllocError, Global};
 use vd_base::{Bytes, HostId, HostSet, Items, Names};
 use vd_report::name_of;
 
-/// A host, how many hosts it depends on, and their names in host order.
+/// The hosts of a group in one word, how many hosts some of them depends on, and their names in host order.
 pub(crate) fn hosts_text(
     alloc: Global,
     names: &Names,
-    host: HostId,
-    set: HostSet,
+    group: &[HostId],
+    sets: &[HostSet],
 ) -> Result<Bytes, AllocError>
     requires { length names.now ≤ most_hosts }
-    ensures { IfOk result (λ text. text ≡ hosts_line names.now host set) }
+    ensures { IfOk result (λ text. text ≡ hosts_line names.now group.now sets.now) }
 {
-    let list = members(alloc, names, set)?;
+    let list = in_some(alloc, names, sets)?;
     let mut text = Bytes::new(alloc);
-    text.extend_from_slice(name_of(names, usize::from(host.0)))?;
+    push_group(&mut text, names, group)?;
     push_number(&mut text, list.as_slice().len() as u64)?;
     push_names(&mut text, names, list.as_slice())?;
     text.push(b'\n')?;
@@ -112,6 +112,57 @@ fn push_member(list: &mut Items<HostId>, set: HostSet, host: HostId) -> Result<(
         list.push(host)?;
     }
     Ok(())
+}
+
+/// The named hosts that some of these sets has, in order.
+fn in_some(alloc: Global, names: &Names, sets: &[HostSet]) -> Result<Items<HostId>, AllocError>
+    requires { length names.now ≤ most_hosts }
+    ensures { IfOk result (λ list. list ≡ filter (in_some sets.now) (hosts (length names.now))) }
+{
+    let mut list = Items::new(alloc);
+    for place in 0..names.as_slice().len() as u8 {
+        push_in_some(&mut list, sets, HostId(place))?;
+    }
+    Ok(list)
+}
+
+/// Puts the host at the end, if some of these sets has it.
+fn push_in_some(list: &mut Items<HostId>, sets: &[HostSet], host: HostId) -> Result<(), AllocError>
+    ensures { OnOk result (list.new ≡ list.old ++ (if in_some sets.now host then host ∷ [] else [])) }
+{
+    if sets.iter().any(|set| set.has(host)) {
+        list.push(host)?;
+    }
+    Ok(())
+}
+
+/// Puts the names of these hosts at the end, with commas between them.
+fn push_group(text: &mut Bytes, names: &Names, group: &[HostId]) -> Result<(), AllocError>
+    ensures { OnOk result (text.new ≡ text.old ++ joined_names names.now group.now) }
+{
+    let [first, others @ ..] = group else {
+        return Ok(());
+    };
+    text.extend_from_slice(name_of(names, usize::from(first.0)))?;
+    push_others(text, names, others)
+}
+
+/// Puts the names of these hosts at the end, each behind a comma.
+fn push_others(text: &mut Bytes, names: &Names, others: &[HostId]) -> Result<(), AllocError>
+    ensures { OnOk result (text.new ≡ text.old ++ flat_map (other_name names.now) others.now) }
+{
+    for host in others {
+        push_other(text, names, *host)?;
+    }
+    Ok(())
+}
+
+/// Puts the name of a host at the end, behind a comma.
+fn push_other(text: &mut Bytes, names: &Names, host: HostId) -> Result<(), AllocError>
+    ensures { OnOk result (text.new ≡ text.old ++ other_name names.now host) }
+{
+    text.push(b',')?;
+    text.extend_from_slice(name_of(names, usize::from(host.0)))
 }
 
 /// Puts the names of these hosts at the end, each behind a space.

@@ -8,12 +8,12 @@ use Rattle.vd_cmd_depends.proofs.depends_command.depends.Goals as goal
 pub returns-in_err-resolved-clause-executes : goal.returns-in_err-resolved-clause-executes
 returns-in_err-resolved-clause-executes g c = λ texts least outcomes.
     let p = err_from_is_err_and c.from_residual.result c.from_residual.ensures.1 in
-    rw (p.1, p.2) ((c.in_err-resolved.ensures {u = tt}).loads texts (λ tree. program_plan least outcomes c.args.host.now (run_form least (normal_form tree))))
+    rw (p.1, p.2) ((c.in_err-resolved.ensures {u = tt}).loads texts (λ tree. program_plan least outcomes c.args.names.now (run_form least (normal_form tree))))
 
 pub returns-clause-executes : goal.returns-clause-executes
 returns-clause-executes g c = λ texts least outcomes.
-    (c.in_ok-resolved.ensures {u = tt}).loads texts (λ tree. program_plan least outcomes c.args.host.now (run_form least (normal_form tree))) _ _ (c.depends_in_source.ensures.executes least outcomes _)
+    (c.in_ok-resolved.ensures {u = tt}).loads texts (λ tree. program_plan least outcomes c.args.names.now (run_form least (normal_form tree))) _ _ (c.depends_in_source.ensures.executes least outcomes _)
 
 pub returns-clause-tells : goal.returns-clause-tells
 returns-clause-tells g c =
-    dependence_told c.args.source.now c.args.host.now (g.F.Files.view c.args.files.now) c.in_ok-resolved.resolved _ (c.in_ok-resolved.ensures {u = tt}).given c.depends_in_source.ensures.tells
+    dependence_told c.args.source.now c.args.names.now (g.F.Files.view c.args.files.now) c.in_ok-resolved.resolved _ (c.in_ok-resolved.ensures {u = tt}).given c.depends_in_source.ensures.tells

@@ -18,12 +18,12 @@ returns-in_err-program-clause-executes c = λ least outcomes files.
 
 pub returns-clause-executes : goal.returns-clause-executes
 returns-clause-executes c = λ least outcomes files.
-    subst (λ (form : NormalForm). Executes true (program_plan least outcomes c.args.name.now form) files files c.depends_in_program.result)
+    subst (λ (form : NormalForm). Executes true (program_plan least outcomes c.args.names.now form) files files c.depends_in_program.result)
     (c.in_ok-program.ensures.form least) (c.depends_in_program.ensures.executes least outcomes files)
 
-told : (name : _) (source : Source) (program : NormalForm) (result : Result Answer Status) → IsRunProgram source program → TellsProgram name program result → TellsSource name source result
-told name source program (Ok answer) is tells = λ e. (program, is, tells e)
-told name source program (Err status) is tells = tt
+told : (names : _) (source : Source) (program : NormalForm) (result : Result Answer Status) → IsRunProgram source program → TellsProgram names program result → TellsSource names source result
+told names source program (Ok answer) is tells = λ e. (program, is, tells e)
+told names source program (Err status) is tells = tt
 
 pub returns-clause-tells : goal.returns-clause-tells
-returns-clause-tells c = told c.args.name.now c.args.source c.in_ok-program.program c.depends_in_program.result c.in_ok-program.ensures.made c.depends_in_program.ensures.tells
+returns-clause-tells c = told c.args.names.now c.args.source c.in_ok-program.program c.depends_in_program.result c.in_ok-program.ensures.made c.depends_in_program.ensures.tells
