@@ -36,12 +36,12 @@ module _ (plan : Contents → Plan) (before mid now : FilesView) (out_before out
       record { printed = answer.printed; added = p.1; headline = tells t p.0 }
   headline words (Err came) status w finishes tells = λ t o e. absurd (never plan before mid now out_before out_now came status w finishes t e)
 
-  dependence : (source name : List ℕ) (came : Result Answer Status) (status : Status) → Executes true plan before mid came → Finishes came mid now out_before out_now status → TellsOf (Depends source name) before came
-      → ShowsOf (Depends source name) before out_before out_now status
-  dependence source name (Ok answer) status w finishes tells = λ t o e.
+  dependence : (source : List ℕ) (names : List (List ℕ)) (came : Result Answer Status) (status : Status) → Executes true plan before mid came → Finishes came mid now out_before out_now status → TellsOf (Depends source names) before came
+      → ShowsOf (Depends source names) before out_before out_now status
+  dependence source names (Ok answer) status w finishes tells = λ t o e.
       let p = printed plan before mid now out_before out_now answer status w finishes t o e in
       record { printed = answer.printed; added = p.1; dependence = tells t p.0 }
-  dependence source name (Err came) status w finishes tells = λ t o e. absurd (never plan before mid now out_before out_now came status w finishes t e)
+  dependence source names (Err came) status w finishes tells = λ t o e. absurd (never plan before mid now out_before out_now came status w finishes t e)
 
   influence : (source name : List ℕ) (came : Result Answer Status) (status : Status) → Executes true plan before mid came → Finishes came mid now out_before out_now status → TellsOf (Influences source name) before came
       → ShowsOf (Influences source name) before out_before out_now status
@@ -85,7 +85,7 @@ module _ (plan : Contents → Plan) (before mid now : FilesView) (out_before out
   pub shows : (command : FilesCommand) (came : Result Answer Status) (status : Status) → Executes true plan before mid came → Finishes came mid now out_before out_now status → TellsOf command before came
       → ShowsOf command before out_before out_now status
   shows (Replay words) came status w finishes tells = headline words came status w finishes tells
-  shows (Depends source name) came status w finishes tells = dependence source name came status w finishes tells
+  shows (Depends source names) came status w finishes tells = dependence source names came status w finishes tells
   shows (Influences source name) came status w finishes tells = influence source name came status w finishes tells
   shows (Needs words) came status w finishes tells = needs words came status w finishes tells
   shows (Trial coordinates) came status w finishes tells = trial coordinates came status w finishes tells

@@ -46,7 +46,7 @@ pub headline_of : (words : List (List ℕ)) (before : FilesView) (out_before out
 headline_of words before out_before out_now status shows = λ replay form. subst (λ (f : Option Command). ShowsForm f before out_before out_now status) form shows
 
 pub dependence_of : (words : List (List ℕ)) (before : FilesView) (out_before out_now : SinkView) (status : Status) → ShowsForm (form_of words) before out_before out_now status → KeepsDependence words before out_before out_now status
-dependence_of words before out_before out_now status shows = λ source name form. subst (λ (f : Option Command). ShowsForm f before out_before out_now status) form shows
+dependence_of words before out_before out_now status shows = λ source names form. subst (λ (f : Option Command). ShowsForm f before out_before out_now status) form shows
 
 pub influence_of : (words : List (List ℕ)) (before : FilesView) (out_before out_now : SinkView) (status : Status) → ShowsForm (form_of words) before out_before out_now status → KeepsInfluence words before out_before out_now status
 influence_of words before out_before out_now status shows = λ source name form. subst (λ (f : Option Command). ShowsForm f before out_before out_now status) form shows
@@ -106,7 +106,7 @@ module _ (files : FilesView) (out : SinkView) where
   pub shows_nothing : (form : Option Command) → ShowsForm form files out out Memory
   shows_nothing None = tt
   shows_nothing (Some (OnFiles (Replay words))) = λ t o e. absurd (cc e)
-  shows_nothing (Some (OnFiles (Depends source name))) = λ t o e. absurd (cc e)
+  shows_nothing (Some (OnFiles (Depends source names))) = λ t o e. absurd (cc e)
   shows_nothing (Some (OnFiles (Influences source name))) = λ t o e. absurd (cc e)
   shows_nothing (Some (OnFiles (Needs words))) = λ t o e. absurd (cc e)
   shows_nothing (Some (OnFiles (Trial coordinates))) = λ t. (tt, λ o e. absurd (cc e))

@@ -45,19 +45,19 @@ KeepsAccepted words before now out_before out_now status =
     (replay : ReplayWords) → form_of words ≡ Some (OnFiles (Replay replay)) → IsTrue before.told → IsAccepted replay before.contents
     → (Rose before.faults now.faults → ⊥) → (Rose out_before.faults out_now.faults → ⊥) → (status ≡ Ended) ⊎ (status ≡ Memory)
 
--- the bytes that were added are a line that names the hosts on which the host of this name depends
-pub record PrintsDependence (source name : List ℕ) (before : FilesView) (out_before out_now : SinkView) : Type 0 where
+-- the bytes that were added are a line that names the hosts on which some host of these names depends
+pub record PrintsDependence (source : List ℕ) (names : List (List ℕ)) (before : FilesView) (out_before out_now : SinkView) : Type 0 where
   pub printed : List ℕ
   pub added : out_now.taken ≡ out_before.taken ++ printed
-  pub dependence : IsDependenceOf source name before.contents printed
+  pub dependence : IsDependenceOf source names before.contents printed
 
 -- Where the words are those of `depends`, and the files and the output tell what they hold, a run with status 0 has printed the
--- hosts whose inputs alone can bear on the host's outputs, and on the clear words that come to it at any valid assignment of
--- protocols, outside of what is declassified to it.
+-- hosts whose inputs alone can bear on the outputs to some host of these names, and on the clear words that come to it at any valid
+-- assignment of protocols, outside of what is declassified to it.
 abbrev pub KeepsDependence : (words : List (List ℕ)) → FilesView → SinkView → SinkView → Status → Type 0
 KeepsDependence words before out_before out_now status =
-    (source name : List ℕ) → form_of words ≡ Some (OnFiles (Depends source name)) → IsTrue before.told → IsTrue out_now.told → status ≡ Ended
-    → PrintsDependence source name before out_before out_now
+    (source : List ℕ) (names : List (List ℕ)) → form_of words ≡ Some (OnFiles (Depends source names)) → IsTrue before.told → IsTrue out_now.told → status ≡ Ended
+    → PrintsDependence source names before out_before out_now
 
 -- the bytes that were added are a line that names the hosts whose inputs bear on what the host of this name is told
 pub record PrintsInfluence (source name : List ℕ) (before : FilesView) (out_before out_now : SinkView) : Type 0 where
@@ -126,7 +126,7 @@ abbrev pub TellsOf : FilesCommand → FilesView → Result Answer Status → Typ
 TellsOf (Compile source prefix budget) before result = TellsSource source prefix before result
 TellsOf (Replay words) before result = TellsHeadline words before result
 TellsOf (Excuse words) before result = TellsExcuse words before result
-TellsOf (Depends source name) before result = TellsDependence source name before result
+TellsOf (Depends source names) before result = TellsDependence source names before result
 TellsOf (Influences source name) before result = TellsInfluence source name before result
 TellsOf (Needs words) before result = TellsNeeds words before result
 TellsOf (Trial coordinates) before result = TellsTrial coordinates result × AnswersTrial result
@@ -135,8 +135,8 @@ TellsOf command before result = Unit {0}
 -- what its run shows
 abbrev pub ShowsOf : FilesCommand → FilesView → SinkView → SinkView → Status → Type 0
 ShowsOf (Replay words) before out_before out_now status = IsTrue before.told → IsTrue out_now.told → status ≡ Ended → PrintsHeadline words before out_before out_now
-ShowsOf (Depends source name) before out_before out_now status =
-    IsTrue before.told → IsTrue out_now.told → status ≡ Ended → PrintsDependence source name before out_before out_now
+ShowsOf (Depends source names) before out_before out_now status =
+    IsTrue before.told → IsTrue out_now.told → status ≡ Ended → PrintsDependence source names before out_before out_now
 ShowsOf (Influences source name) before out_before out_now status =
     IsTrue before.told → IsTrue out_now.told → status ≡ Ended → PrintsInfluence source name before out_before out_now
 ShowsOf (Needs words) before out_before out_now status = IsTrue before.told → IsTrue out_now.told → status ≡ Ended → PrintsNeeds words before out_before out_now

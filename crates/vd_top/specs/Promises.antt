@@ -103,9 +103,9 @@ pub record Keeps (words : List (List ℕ)) (o : Around) (status : Status) : Type
   -- host sends, which is the same in both runs. The source has two hosts and no commitment at its choice, and the host knows the same
   -- words of both inputs.
   pub excused : KeepsExcuse words o.files.0 o.files.1 o.out.0 o.out.1 status
-  -- With status 0 `depends` has printed the hosts whose inputs are reached from the outputs to the host. Two families of inputs that
-  -- agree on theirs, and on the words that are declassified to the host, give it the same outputs. At every valid list of protocols
-  -- they bring it the same words in clear.
+  -- With status 0 `depends` has printed the hosts whose inputs are reached from the outputs to one of the hosts that were named. Two
+  -- families of inputs that agree on theirs, and on the words that are declassified to a named host, give it the same outputs. At
+  -- every valid list of protocols they bring it the same words in clear.
   pub dependence : KeepsDependence words o.files.0 o.out.0 o.out.1 status
   -- With status 0 `influences` has printed the hosts whose inputs are reached from the outputs to the host, and again those that are
   -- reached through endorsements only. Two families of inputs that agree on the printed hosts give the host the same outputs. So do
