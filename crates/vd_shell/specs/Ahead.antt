@@ -40,7 +40,7 @@ wanted_of (OnFiles (Replay words)) =
     (file words.source most_source_bytes ∷ file words.inputs most_inputs_bytes ∷ []) ++ deals_of words.prefix ++ file words.schedule most_schedule_bytes ∷ []
 wanted_of (OnFiles (Excuse words)) =
     (file words.source most_source_bytes ∷ file words.inputs most_inputs_bytes ∷ file words.second most_inputs_bytes ∷ []) ++ deals_of words.prefix
-wanted_of (OnFiles (Depends source host)) = file source most_source_bytes ∷ []
+wanted_of (OnFiles (Depends source names)) = file source most_source_bytes ∷ []
 wanted_of (OnFiles (Influences source host)) = file source most_source_bytes ∷ []
 wanted_of (OnFiles (Column words)) = file words.file most_inputs_bytes ∷ []
 wanted_of (OnFiles (Gen coordinates)) = []

@@ -46,7 +46,7 @@ pub record NamedFilesAreAhead : Type 0 where
   pub compile : (source prefix : List ℕ) (budget : ℕ) → IsAhead (OnFiles (Compile source prefix budget)) source most_source_bytes
   pub early : (words : EarlyWords) → IsAhead (Early words) words.source most_source_bytes
   pub needs : (words : NeedsWords) → IsAhead (OnFiles (Needs words)) words.file most_host_file_bytes
-  pub depends : (source host : List ℕ) → IsAhead (OnFiles (Depends source host)) source most_source_bytes
+  pub depends : (source : List ℕ) (names : List (List ℕ)) → IsAhead (OnFiles (Depends source names)) source most_source_bytes
   pub influences : (source host : List ℕ) → IsAhead (OnFiles (Influences source host)) source most_source_bytes
   pub column : (words : ColumnWords) → IsAhead (OnFiles (Column words)) words.file most_inputs_bytes
   pub key : (words : KeyDealWords) (name : List ℕ) → words.key ≡ InFile name → IsAhead (KeyDeal words) name 32
