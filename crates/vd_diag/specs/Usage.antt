@@ -21,7 +21,7 @@ usage_table =
     ∷ (codes "host-within", codes "usage: viaduct host-within SECONDS PROGRAM INPUTS DEAL ADDR..\n")
     ∷ (codes "run", codes "usage: viaduct run SOURCE INPUTS PREFIX SELF PORT\n")
     ∷ (codes "excuse", codes "usage: viaduct excuse SOURCE INPUTS INPUTS2 PREFIX HOST OUT [BUDGET]\n")
-    ∷ (codes "depends", codes "usage: viaduct depends SOURCE HOST\n")
+    ∷ (codes "depends", codes "usage: viaduct depends SOURCE HOSTS\n")
     ∷ (codes "influences", codes "usage: viaduct influences SOURCE HOST\n")
     ∷ (codes "gen", codes "usage: viaduct gen N\n")
     ∷ (codes "trial", codes "usage: viaduct trial N\n")

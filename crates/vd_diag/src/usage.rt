@@ -47,7 +47,7 @@ const USAGES: [(&[u8], &[u8]); 21] = [
         b"excuse",
         b"usage: viaduct excuse SOURCE INPUTS INPUTS2 PREFIX HOST OUT [BUDGET]\n",
     ),
-    (b"depends", b"usage: viaduct depends SOURCE HOST\n"),
+    (b"depends", b"usage: viaduct depends SOURCE HOSTS\n"),
     (b"influences", b"usage: viaduct influences SOURCE HOST\n"),
     (b"gen", b"usage: viaduct gen N\n"),
     (b"trial", b"usage: viaduct trial N\n"),
