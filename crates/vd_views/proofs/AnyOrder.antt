@@ -13,13 +13,14 @@ use Rattle.vd_execution.proofs.Front.{on_the_way}
 use Rattle.vd_views.specs.Views.{Coalition}
 use Rattle.vd_views.specs.Contract.{Explains}
 use Rattle.vd_noninter_protocols.specs.Told.{IsDealt}
-use Rattle.vd_views.specs.Explained.{IsFree, plan_of, input_words}
+use Rattle.vd_projection.specs.Assignments.{IsValidFor}
+use Rattle.vd_views.specs.Explained.{plan_of, input_words}
 use Rattle.vd_views.specs.AnyOrder.{world_after, SeesFronts, SeesFrontsInAnyOrder}
 use Rattle.vd_views.proofs.Theorem.{runs}
 
-module _ (p : NormalForm) (l : Labels) (protocols : List Proto) (free : IsFree p l protocols) (K : Coalition) where
+module _ (p : NormalForm) (l : Labels) (protocols : List Proto) (chosen : IsValidFor p l protocols) (K : Coalition) where
   well : (inputs : List (List ℕ)) (t : Tape) → IsDealt inputs t → RunsWell (endless t) (joint_of (plan_of p protocols))
-  well inputs t dealt = let r = runs p l protocols free inputs t dealt in record { tidy = r.tidy; smooth = r.smooth }
+  well inputs t dealt = let r = runs p l protocols chosen inputs t dealt in record { tidy = r.tidy; smooth = r.smooth }
 
   -- two ends that look alike to a host
   same_end : (h : ℕ) (w v : Hosts) → w h ≡ v h → ((g : ℕ) → (w g).sent h ≡ (v g).sent h) → at_end w h ≡ at_end v h
@@ -54,4 +55,4 @@ module _ (p : NormalForm) (l : Labels) (protocols : List Proto) (free : IsFree p
     }
 
 pub fronts_in_any_order : SeesFrontsInAnyOrder
-fronts_in_any_order p l protocols free K first second t y dealt dealt' e a b = fronts p l protocols free K first second t y dealt dealt' e a b
+fronts_in_any_order p l protocols chosen K first second t y dealt dealt' e a b = fronts p l protocols chosen K first second t y dealt dealt' e a b

@@ -58,12 +58,6 @@ pub plain_acts : (xs : List Gadget) (j : Plan Gadget) → Each IsPlain xs → Pl
 plain_acts [] j p q = q
 plain_acts (x ∷ xs) j p q = (p.0, plain_acts xs j p.1 q)
 
-pub plain_split : (a b : Plan Gadget) → PlanIsPlain (and_then a b) → PlanIsPlain a × PlanIsPlain b
-plain_split Ends b p = (tt, p)
-plain_split (Then g r) b p = let rest = plain_split r b p.1 in ((p.0, rest.0), rest.1)
-plain_split (Branch ps x o r) b p = let rest = plain_split r b p.1.1 in ((p.0, (p.1.0, rest.0)), rest.1)
-plain_split (Loop ps n body r) b p = let rest = plain_split r b p.1 in ((p.0, rest.0), rest.1)
-
 pub nothing_along : (t u : Tape) (xs : List Gadget) (w v : Hosts) → AlongGadgets (λ g x y. Unit {0}) t u xs w v
 nothing_along t u [] w v = tt
 nothing_along t u (x ∷ xs) w v = (tt, nothing_along t u xs (run_acts t (acts_of_gadget x) w) (run_acts u (acts_of_gadget x) v))

@@ -28,7 +28,7 @@ use Rattle.vd_views.specs.PairUp.{IsDealOf as IsDealWith}
 use Rattle.vd_views.specs.Lengths.{Lengths, IsLongEnough, OwnFits, Shows, AreAll}
 use Rattle.vd_views.proofs.Coalitions.{is_alone, of_alone}
 use Rattle.vd_views.proofs.Strangers.{all_within, seen_item}
-use Rattle.vd_views.proofs.Theorem.{others_are_explained, one_of_two_looks, plan_is_tidy, choose_branches}
+use Rattle.vd_views.proofs.Theorem.{free_opens, others_are_explained, one_of_two_looks, plan_is_tidy, choose_branches}
 use Rattle.vd_views.proofs.Places.{all_sight}
 use Rattle.vd_views.proofs.ViewsBackendsPlans.{plan_owns}
 use Rattle.vd_views.specs.Sides.{OwnsInSight}
@@ -140,11 +140,11 @@ module _ (p : NormalForm) (l : Labels) (protocols : List Proto) (of_two : IsOfTw
   together = (one_of_two_looks p l protocols of_two.free of_two.hosts h.0 low).0
 
   tidy : PlanIsTidy (plan_of p protocols)
-  tidy = plan_is_tidy p l protocols of_two.free
+  tidy = plan_is_tidy p l protocols of_two.free.chosen
 
   -- all runs on one family of inputs take as many own words
   own_counts : (inputs : List (List ℕ)) (u y : Tape) → IsDealWith (input_words inputs) u → IsDealWith (input_words inputs) y → (g : ℕ) → (joint u (joint_of plan) fresh g).cursors OwnWords ≡ (joint y (joint_of plan) fresh g).cursors OwnWords
-  own_counts inputs u y d e g = plan_owns everyone u y plan (all_sight plan tidy) tidy fresh fresh (choose_branches p l protocols of_two.free inputs u y d.deal d.inputs e.deal e.inputs) (λ k. refl) g
+  own_counts inputs u y d e g = plan_owns everyone u y plan (all_sight plan tidy) tidy fresh fresh (choose_branches p l protocols of_two.free.chosen inputs u y d.deal d.inputs e.deal e.inputs) (λ k. refl) g
 
   sight : OwnsInSight (alone h.0) (plan_of p protocols)
   sight = (one_of_two_looks p l protocols of_two.free of_two.hosts h.0 low).1
@@ -155,9 +155,9 @@ module _ (p : NormalForm) (l : Labels) (protocols : List Proto) (of_two : IsOfTw
   files_explained : (second : List (List ℕ)) → length second ≤ 2 → AgreeFor p l protocols (alone h.0) first second → (stored : List Deal) × IsExcuse h.0 plan first second (file 0 x ∷ file 1 w ∷ []) stored
   files_explained second few agree =
       let y : Tape = excused (alone h.0) t plan (moved_deal (alone h.0) plan t (input_words second)) fresh fresh in
-      let e : Explains (alone h.0) plan t (input_words second) y = others_are_explained p l protocols of_two.free (alone h.0) together first second t (is_dealt first deals enough.files) agree in
-      let long : IsLongEnough (alone h.0) n plan y = excuses_are_as_long p l protocols of_two.free (alone h.0) together (input_words second) t y (is_dealt first deals enough.files).deal e n t_long
-      (own_fits p l protocols of_two.free (alone h.0) sight (input_words second) t y e n t_long) in
+      let e : Explains (alone h.0) plan t (input_words second) y = others_are_explained p l protocols (alone h.0) (free_opens p l protocols of_two.free (alone h.0)) together first second t (is_dealt first deals enough.files) agree in
+      let long : IsLongEnough (alone h.0) n plan y = excuses_are_as_long p l protocols (alone h.0) (free_opens p l protocols of_two.free (alone h.0)) together (input_words second) t y (is_dealt first deals enough.files).deal e n t_long
+      (own_fits p l protocols of_two.free.chosen (alone h.0) sight (input_words second) t y e n t_long) in
       let deal : IsDealWith (input_words second) y = record { deal = e.deal; inputs = e.inputs } in (
         read_files x w y,
         record {
@@ -217,11 +217,11 @@ module _ (p : NormalForm) (l : Labels) (protocols : List Proto) (of_two : IsOfTw
       let tapes = all_there (ShowsTheSame h.0 plan first deals first) (Shows (alone h.0) plan n t (input_words first)) (tape_of first) (read_files x w)
       (to_deal first few words same) (to_files first few words same) (files_again first few words same) (deal_again first few words same) all all_first in
       let y : Tape = excused (alone h.0) t plan (moved_deal (alone h.0) plan t (input_words second)) fresh fresh in
-      let e : Explains (alone h.0) plan t (input_words second) y = others_are_explained p l protocols of_two.free (alone h.0) together first second t (is_dealt first deals enough.files) there in
+      let e : Explains (alone h.0) plan t (input_words second) y = others_are_explained p l protocols (alone h.0) (free_opens p l protocols of_two.free (alone h.0)) together first second t (is_dealt first deals enough.files) there in
       let fits : OwnFits n plan (input_words first) = λ u d g. subst (λ c. c ≤ n g OwnWords) (own_counts first t u (is_deal first deals enough.files) d g) (t_long.takes g OwnWords tt) in
       let fits_too : OwnFits n plan (input_words second) = λ u d g.
-      subst (λ c. c ≤ n g OwnWords) (own_counts second y u (record { deal = e.deal; inputs = e.inputs }) d g) (own_fits p l protocols of_two.free (alone h.0) sight (input_words second) t y e n t_long g) in
-      let many = show_equally_many p l protocols of_two.free (alone h.0) together first second there here n fits fits_too t (map (tape_of first) all) tapes in
+      subst (λ c. c ≤ n g OwnWords) (own_counts second y u (record { deal = e.deal; inputs = e.inputs }) d g) (own_fits p l protocols of_two.free.chosen (alone h.0) sight (input_words second) t y e n t_long g) in
+      let many = show_equally_many p l protocols (alone h.0) (free_opens p l protocols of_two.free (alone h.0)) together first second there here n fits fits_too t (map (tape_of first) all) tapes in
       let back : (i : ℕ) → input_words second h.0 i ≡ input_words first h.0 i = λ i. sym (there.own h.0 (is_alone h.0) i) in (
         map (read_files x w) many.0,
         mapped_count (read_files x w) many.0 ∙ many.1 ∙ mapped_count (tape_of first) all,

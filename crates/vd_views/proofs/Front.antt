@@ -4,7 +4,7 @@ pub use Rattle.vd_views.proofs.Changed.{changed_at, changed_elsewhere, changed_h
 pub use Rattle.vd_views.proofs.Joints.{Grows, HasFrame, before, branch_frame, branch_grows, frame_after, joint_frame, joint_grows, turns_frame, turns_grow}
 pub use Rattle.vd_views.proofs.Plans.{begun_cursors, run_turn_grows}
 pub use Rattle.vd_views.proofs.Coalitions.{is_alone, of_alone}
-pub use Rattle.vd_views.proofs.Theorem.{deal_stays, one_of_two_looks, others_are_explained, plan_is_tidy}
+pub use Rattle.vd_views.proofs.Theorem.{deal_stays, free_opens, one_of_two_looks, others_are_explained, plan_is_tidy}
 pub use Rattle.vd_views.proofs.Lengths.{excuses_are_as_long, own_fits}
 pub use Rattle.vd_views.proofs.Strangers.{IsStranger, all_within, below_two, seen_item, strangers_take_none}
 pub use Rattle.vd_views.proofs.Lists.{past_end}

@@ -10,6 +10,7 @@ use Rattle.vd_execution.specs.Deals.{IsValidDeal}
 use Rattle.vd_execution.specs.Gadgets.{Gadget}
 use Rattle.vd_execution.specs.Plans.{Plan, joint_of, PlanIsTidy}
 use Rattle.vd_execution.proofs.Front.{plan_sound}
+use Rattle.vd_projection.specs.Assignments.{IsValidFor}
 use Rattle.vd_views.specs.Views.{Coalition, IsIn, IsOut}
 use Rattle.vd_views.specs.Hiding.{IsWithout}
 use Rattle.vd_views.specs.Contract.{InputWords, Explains, HasExplanation}
@@ -21,15 +22,15 @@ use Rattle.vd_views.proofs.ViewsBackendsPlans.{plan_owns}
 use Rattle.vd_views.specs.Moved.{stays, moved_by, places, Rise}
 use Rattle.vd_views.proofs.Moved.{moves_well}
 use Rattle.vd_views.proofs.Places.{places_rise}
-use Rattle.vd_views.specs.Explained.{IsFree, IsCoalition, plan_of, input_words, AgreeFor}
+use Rattle.vd_views.specs.Explained.{IsOpen, IsCoalition, plan_of, input_words, AgreeFor}
 use Rattle.vd_views.specs.PairUp.{IsDealOf, EachExplains}
 use Rattle.vd_views.specs.Lengths.{Lengths, IsSeen, IsLongEnough, OwnFits, ExcusesAreAsLong, Shows, IsAmong, AreAll, ShowEquallyMany}
 use Rattle.vd_views.proofs.Theorem.{plan_is_tidy}
 use Rattle.vd_views.proofs.PairUp.{explained, turned, only, as_many}
 
-module _ (p : NormalForm) (l : Labels) (protocols : List Proto) (free : IsFree p l protocols) (K : Coalition) (together : IsCoalition p K) where
+module _ (p : NormalForm) (l : Labels) (protocols : List Proto) (K : Coalition) (opens : IsOpen p l protocols K) (together : IsCoalition p K) where
   fixed : PlanIsTidy (plan_of p protocols)
-  fixed = plan_is_tidy p l protocols free
+  fixed = plan_is_tidy p l protocols opens.chosen
 
   abbrev plan : Plan Gadget
   plan = plan_of p protocols
@@ -144,12 +145,12 @@ module _ (p : NormalForm) (l : Labels) (protocols : List Proto) (free : IsFree p
     fellow t y d e [] ys es i = absurd i
     fellow t y d e (u ∷ ts) [] es i = absurd es
     fellow t y d e (u ∷ ts) (z ∷ ys) es (inl same) =
-        inl (only p l protocols free K together first second there here t y z d e (subst (λ (x : Tape). Explains K (plan_of p protocols) x (input_words second) z) same es.0))
+        inl (only p l protocols K opens together first second there here t y z d e (subst (λ (x : Tape). Explains K (plan_of p protocols) x (input_words second) z) same es.0))
     fellow t y d e (u ∷ ts) (z ∷ ys) es (inr i) = inr (fellow t y d e ts ys es.1 i)
 
     equally_many : (ts : List Tape) → AreAll First ts → (ys : List Tape) × (length ys ≡ length ts) × AreAll Second ys
     equally_many ts all_first =
-        let many = as_many p l protocols free K together first second there here ts (each_deal ts all_first.each) all_first.different in
+        let many = as_many p l protocols K opens together first second there here ts (each_deal ts all_first.each) all_first.different in
         let ys : List Tape = many.0 in (
           ys,
           as_many_as ts ys many.1,
@@ -157,22 +158,22 @@ module _ (p : NormalForm) (l : Labels) (protocols : List Proto) (free : IsFree p
             each = each_shows ts ys all_first.each many.1;
             different = many.3;
             all = λ y s.
-                let back : HasExplanation K (plan_of p protocols) y (input_words first) = explained p l protocols free K together second first here there y s.deal in
+                let back : HasExplanation K (plan_of p protocols) y (input_words first) = explained p l protocols K opens together second first here there y s.deal in
                 let t : Tape = back.0 in
                 let of_first : First t = shows (input_words second) (input_words first) fits y t s back.1 in
-                let forth : Explains K (plan_of p protocols) t (input_words second) y = turned p l protocols free K together second first here there y t s.deal back.1 in
+                let forth : Explains K (plan_of p protocols) t (input_words second) y = turned p l protocols K opens together second first here there y t s.deal back.1 in
                 fellow t y of_first.deal forth ts ys many.1 (all_first.all t of_first);
           },
         )
 
 -- where own words are taken in sight of the coalition, those that reach for the first run reach for the second
-pub own_fits : (p : NormalForm) (l : Labels) (protocols : List Proto) → IsFree p l protocols → (K : Coalition) → OwnsInSight K (plan_of p protocols) → (second : InputWords) (t y : Tape) → Explains K (plan_of p protocols) t second y
+pub own_fits : (p : NormalForm) (l : Labels) (protocols : List Proto) → IsValidFor p l protocols → (K : Coalition) → OwnsInSight K (plan_of p protocols) → (second : InputWords) (t y : Tape) → Explains K (plan_of p protocols) t second y
     → (n : Lengths) → IsLongEnough K n (plan_of p protocols) t → (g : ℕ) → (joint y (joint_of (plan_of p protocols)) fresh g).cursors OwnWords ≤ n g OwnWords
-own_fits p l protocols free K sight second t y e n long g =
-    subst (λ c. c ≤ n g OwnWords) (plan_owns K t y (plan_of p protocols) sight (plan_is_tidy p l protocols free) fresh fresh e.chooses (λ k. refl) g) (long.takes g OwnWords tt)
+own_fits p l protocols chosen K sight second t y e n long g =
+    subst (λ c. c ≤ n g OwnWords) (plan_owns K t y (plan_of p protocols) sight (plan_is_tidy p l protocols chosen) fresh fresh e.chooses (λ k. refl) g) (long.takes g OwnWords tt)
 
 pub excuses_are_as_long : ExcusesAreAsLong
-excuses_are_as_long p l protocols free K together second t y deal e n long fits = as_long p l protocols free K together second t y deal e n long fits
+excuses_are_as_long p l protocols K opens together second t y deal e n long fits = as_long p l protocols K opens together second t y deal e n long fits
 
 pub show_equally_many : ShowEquallyMany
-show_equally_many p l protocols free K together first second there here n fits fits_too t ts all_first = equally_many p l protocols free K together first second there here n fits fits_too t ts all_first
+show_equally_many p l protocols K opens together first second there here n fits fits_too t ts all_first = equally_many p l protocols K opens together first second there here n fits fits_too t ts all_first

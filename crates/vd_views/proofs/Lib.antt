@@ -29,6 +29,7 @@ mod ViewsBackendsPlans
 mod Rows
 mod Ordinary
 mod Usual
+mod Bound
 mod Clear
 mod Pairs
 mod ToSums

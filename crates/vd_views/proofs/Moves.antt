@@ -1,4 +1,5 @@
--- The moves of the suite: a host is told the word where it comes to have it in clear, and else nothing openly but own words.
+-- The moves of the suite: a host is told the word where it comes to have it in clear, and else nothing openly but own words, and what a
+-- host of the coalition says that is bound by a commitment.
 use Rattle.std.proofs.Common.{◌≡◌, ◌≢◌, ℕ, ◌<◌, nat_eq, Bool, true, false, IsTrue, is_some, List, [], ◌∷◌, ◌⊎◌, inl, inr, refl, sym, subst, subst₂}
 use Rattle.std.specs.Prelude.{slice_index}
 use Rattle.vd_base.specs.declared.ids.HostId.{HostId}
@@ -26,15 +27,17 @@ use Rattle.vd_circuit.specs.CircuitCalls.{circuit_serves}
 use Rattle.vd_convert.specs.Convert.{to_xor_made, to_add_made}
 use Rattle.vd_split.specs.Suite.{Ready, Operand as AnyOperand}
 use Rattle.vd_split.proofs.Front.{and_left, and_right, or_cases}
+use Rattle.vd_backend_laws.specs.Commits.{held_of, seen_of}
 use Rattle.vd_backend_laws.specs.Moves.{only}
 use Rattle.vd_backend_laws.specs.Parts.{Parts as SlotParts, has_back_end, back_end, suite_calls}
 use Rattle.vd_backend_laws.specs.Suite.{IsOver, joins}
-use Rattle.vd_backend_laws.proofs.Front.{M, S, ready_at, operand_at, sole, equal_of, in_order, ordered_differ, no_back_end, members_of_pair}
+use Rattle.vd_backend_laws.proofs.Front.{M, S, ready_at, operand_at, sole, equal_of, in_order, ordered_differ, members_of_pair}
 use Rattle.vd_views.specs.Views.{Coalition, IsIn}
-use Rattle.vd_views.specs.Sides.{AreKin, Telling, HasClear}
+use Rattle.vd_views.specs.Sides.{AreKin, Telling, HasClear, IsOpenAt}
 use Rattle.vd_views.proofs.Sides.{telling_quiet}
 use Rattle.vd_views.proofs.Ordinary.{AreOrdinary, all_quiet}
 use Rattle.vd_views.proofs.Usual.{share_ordinary, to_xor_ordinary}
+use Rattle.vd_views.proofs.Bound.{bound_tells, revealed_tells, shown_bound_tells}
 use Rattle.vd_views.proofs.Clear.{passed_tells, shown_tells, spread_tells}
 use Rattle.vd_views.proofs.Pairs.{shown_tells as pair_shown, all_shown_tells}
 use Rattle.vd_views.proofs.ToSums.{to_add_tells}
@@ -101,14 +104,14 @@ module _ (K : Coalition) (t y : Tape) (kin : AreKin K t y) (inputs others : ℕ 
         let o' = at_second (Local a) refl over refl x next w v c d moved in
         ((sole (clear_calls (Local a)) a next w x.at c refl o.stands.at o).here, (sole (clear_calls (Local a)) a next v x.at d refl o'.stands.at o').here)
 
-    from_one : (q : Proto) → has_back_end q ≡ true → ((g : ℕ) → IsIn K g → HasClear g q → c ≡ d) → Telling K t y ((suite_calls hosts).move (Local a) q x next).acts w v
+    from_one : (q : Proto) → IsOpenAt K q → ((g : ℕ) → IsIn K g → HasClear g q → c ≡ d) → Telling K t y ((suite_calls hosts).move (Local a) q x next).acts w v
     from_one (Local k) f same = passed_tells K t y kin a (only x.at) c d (holders (Local k)) next w v held (λ g m i. same g m (alone g i))
       where
         alone : (g : ℕ) → (g ≡ k.0) ⊎ ⊥ → g ≡ k.0
         alone g (inl e) = e
         alone g (inr e) = absurd e
     from_one (Rep set) f same = passed_tells K t y kin a (only x.at) c d (holders (Rep set)) next w v held same
-    from_one (Commit u z) f same = no_back_end f
+    from_one (Commit u z) f same = bound_tells K t y kin u z (only x.at) next w v f
     from_one (Add u z) f same = telling_quiet K t y kin (shared_from BySums u z a (only x.at) next).gadgets w v (all_quiet (shared_from BySums u z a (only x.at) next).gadgets (share_ordinary BySums u z a (only x.at) next))
     from_one (Xor u z) f same = telling_quiet K t y kin (shared_from ByXors u z a (only x.at) next).gadgets w v (all_quiet (shared_from ByXors u z a (only x.at) next).gadgets (share_ordinary ByXors u z a (only x.at) next))
 
@@ -120,10 +123,10 @@ module _ (K : Coalition) (t y : Tape) (kin : AreKin K t y) (inputs others : ℕ 
     copied_too : Copies v x.at d
     copied_too = copies_of (Rep set) tt v x.at d (at_second (Rep set) refl over refl x next w v c d moved).stands
 
-    from_copies : (q : Proto) → has_back_end q ≡ true → ((g : ℕ) → IsIn K g → HasClear g q → c ≡ d) → Telling K t y ((suite_calls hosts).move (Rep set) q x next).acts w v
+    from_copies : (q : Proto) → IsOpenAt K q → ((g : ℕ) → IsIn K g → HasClear g q → c ≡ d) → Telling K t y ((suite_calls hosts).move (Rep set) q x next).acts w v
     from_copies (Local k) f same = (shown_tells K t y kin c d x.at k next w v copied copied_too (λ i. same k.0 i refl)).tells
     from_copies (Rep other) f same = spread_tells K t y kin c d x.at (holders (Rep other)) next w v copied copied_too same
-    from_copies (Commit u z) f same = no_back_end f
+    from_copies (Commit u z) f same = λ both tidy hides owns. tt
     from_copies (Add u z) f same =
         let gs : List Gadget = (adopted_shares u z x.at next).gadgets in
         let ordinary : AreOrdinary gs = (tt, tt) in
@@ -150,14 +153,14 @@ module _ (K : Coalition) (t y : Tape) (kin : AreKin K t y) (inputs others : ℕ 
     summed_too : Parts BySums a b next v (shares_of x.at) d
     summed_too = parts_of a b add_serves (add_apply a b) BySums next v x.at d (at_second (Add a b) refl over refl x next w v c d moved)
 
-    from_sums : (q : Proto) → has_back_end q ≡ true → IsTrue (joins (Add a b) q) → ((g : ℕ) → IsIn K g → HasClear g q → c ≡ d) → Telling K t y ((suite_calls hosts).move (Add a b) q x next).acts w v
+    from_sums : (q : Proto) → IsOpenAt K q → IsTrue (joins (Add a b) q) → ((g : ℕ) → IsIn K g → HasClear g q → c ≡ d) → Telling K t y ((suite_calls hosts).move (Add a b) q x next).acts w v
     from_sums (Local k) f j same =
         pair_shown K t y kin BySums a b (ordered_differ a b over.ordered) (shares_of x.at) c d k (opened_to k a b j) next w v summed.word summed_too.word (λ i. same k.0 i refl)
     from_sums (Rep set) f j same =
         let apart = ordered_differ a b over.ordered in
         all_shown_tells K t y kin BySums a b apart (shares_of x.at) c d next (second_low a b apart next (shares_of x.at).second.0 summed.second_low) w v summed.word summed_too.word
         (λ i. told_to_both set a b (in_order a b over.ordered) j c d same i)
-    from_sums (Commit u z) f j same = no_back_end f
+    from_sums (Commit u z) f j same = λ both tidy hides owns. tt
     from_sums (Add u z) f j same = λ both tidy hides owns. tt
     from_sums (Xor u z) f j same = telling_quiet K t y kin (to_xor_made u z x.at next).gadgets w v (all_quiet (to_xor_made u z x.at next).gadgets (to_xor_ordinary u z x.at next))
 
@@ -178,23 +181,37 @@ module _ (K : Coalition) (t y : Tape) (kin : AreKin K t y) (inputs others : ℕ 
         to_add_tells a b (ordered_differ a b over.ordered) next x.at K t y kin w v (record { deal = r.deal; sound = r.sound; known = r.known }) (record { deal = r'.deal; sound = r'.sound; known = r'.known }) c d
         (record { below = o.below; stands = record { at = o.stands.at; word = o.stands.word } }) (record { below = o'.below; stands = record { at = o'.stands.at; word = o'.stands.word } })
 
-    from_xors : (q : Proto) → has_back_end q ≡ true → IsTrue (joins (Xor a b) q) → ((g : ℕ) → IsIn K g → HasClear g q → c ≡ d) → Telling K t y ((suite_calls hosts).move (Xor a b) q x next).acts w v
+    from_xors : (q : Proto) → IsOpenAt K q → IsTrue (joins (Xor a b) q) → ((g : ℕ) → IsIn K g → HasClear g q → c ≡ d) → Telling K t y ((suite_calls hosts).move (Xor a b) q x next).acts w v
     from_xors (Local k) f j same =
         pair_shown K t y kin ByXors a b (ordered_differ a b over.ordered) (shares_of x.at) c d k (opened_to k a b j) next w v xored.word xored_too.word (λ i. same k.0 i refl)
     from_xors (Rep set) f j same =
         let apart = ordered_differ a b over.ordered in
         all_shown_tells K t y kin ByXors a b apart (shares_of x.at) c d next (second_low a b apart next (shares_of x.at).second.0 xored.second_low) w v xored.word xored_too.word
         (λ i. told_to_both set a b (in_order a b over.ordered) j c d same i)
-    from_xors (Commit u z) f j same = no_back_end f
+    from_xors (Commit u z) f j same = λ both tidy hides owns. tt
     from_xors (Add u z) f j same =
         let e = same_two a b u z 210 j in
         subst₂ (λ (m n : ℕ). Telling K t y (to_add_made (host m) (host n) x.at next).gadgets w v) e.0 e.1 converted
     from_xors (Xor u z) f j same = λ both tidy hides owns. tt
 
-  pub move_tells : (p q : Proto) → has_back_end p ≡ true → has_back_end q ≡ true → IsOver hosts p → IsTrue (joins p q) → (x : SlotParts) (next : List ℕ) (w v : Hosts) (c d : ℕ) → AreMoved p x next w v c d
+  -- a commitment: who is told the word and the nonce is told by the host that is bound
+  from_bound : (a b : HostId) → (IsIn K b.0 → IsIn K a.0) → (q : Proto) → (x : SlotParts) (next : List ℕ) (w v : Hosts) → Telling K t y ((suite_calls hosts).move (Commit a b) q x next).acts w v
+  from_bound a b e (Local k) x next w v = shown_bound_tells K t y kin a b x.at k next w v e
+  from_bound a b e (Rep set) x next w v = revealed_tells K t y kin a b (held_of x.at) (seen_of x.at) next w v e
+  from_bound a b e (Commit u z) x next w v = λ both tidy hides owns. tt
+  from_bound a b e (Add u z) x next w v =
+      let gs : List Gadget = (adopted_shares u z x.at next).gadgets in
+      let ordinary : AreOrdinary gs = (tt, tt) in
+      telling_quiet K t y kin gs w v (all_quiet gs ordinary)
+  from_bound a b e (Xor u z) x next w v =
+      let gs : List Gadget = (adopted_shares u z x.at next).gadgets in
+      let ordinary : AreOrdinary gs = (tt, tt) in
+      telling_quiet K t y kin gs w v (all_quiet gs ordinary)
+
+  pub move_tells : (p q : Proto) → IsOpenAt K p → IsOpenAt K q → IsOver hosts p → IsTrue (joins p q) → (x : SlotParts) (next : List ℕ) (w v : Hosts) (c d : ℕ) → AreMoved p x next w v c d
       → ((g : ℕ) → IsIn K g → HasClear g q → c ≡ d) → Telling K t y ((suite_calls hosts).move p q x next).acts w v
   move_tells (Local a) q e f over j x next w v c d moved same = from_one a over x next w v c d moved q f same
   move_tells (Rep set) q e f over j x next w v c d moved same = from_copies set over x next w v c d moved q f same
-  move_tells (Commit u z) q e f over j x next w v c d moved same = no_back_end e
+  move_tells (Commit u z) q e f over j x next w v c d moved same = from_bound u z e q x next w v
   move_tells (Add a b) q e f over j x next w v c d moved same = from_sums a b over x next w v c d moved q f j same
   move_tells (Xor a b) q e f over j x next w v c d moved same = from_xors a b over x next w v c d moved q f j same

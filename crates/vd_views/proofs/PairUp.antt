@@ -20,14 +20,14 @@ use Rattle.vd_views.proofs.Contract.{fresh_sound}
 use Rattle.vd_views.proofs.Coalitions.{in_or_out}
 use Rattle.vd_noninter_protocols.specs.Told.{IsDealt}
 use Rattle.vd_views.specs.Sides.{Each}
-use Rattle.vd_views.specs.Explained.{IsFree, IsCoalition, plan_of, input_words, AgreeFor}
+use Rattle.vd_views.specs.Explained.{IsOpen, IsCoalition, plan_of, input_words, AgreeFor}
 use Rattle.vd_views.specs.PairUp.{IsDealOf, PairUp, DealsPairUp, EachExplains, AsMany, ThereAreAsMany}
 use Rattle.vd_views.proofs.Theorem.{plan_is_tidy, others_are_explained, explained_back}
 
 same_tape : (t z : Tape) → ((g : ℕ) (s : Source) (i : ℕ) → z g s i ≡ t g s i) → z ≡ t
 same_tape t z e = fun_ext (λ g. fun_ext (λ s. fun_ext (λ i. e g s i)))
 
-module _ (p : NormalForm) (l : Labels) (protocols : List Proto) (free : IsFree p l protocols) (K : Coalition) (together : IsCoalition p K) where
+module _ (p : NormalForm) (l : Labels) (protocols : List Proto) (K : Coalition) (opens : IsOpen p l protocols K) (together : IsCoalition p K) where
   abbrev plan : Plan Gadget
   plan = plan_of p protocols
 
@@ -36,21 +36,21 @@ module _ (p : NormalForm) (l : Labels) (protocols : List Proto) (free : IsFree p
 
   -- what the plan is whatever the deals
   fixed_tidy : PlanIsTidy (plan_of p protocols)
-  fixed_tidy = plan_is_tidy p l protocols free
+  fixed_tidy = plan_is_tidy p l protocols opens.chosen
 
   module _ (first second : List (List ℕ)) (there : AgreeFor p l protocols K first second) (here : AgreeFor p l protocols K second first) where
     pub explained : (t : Tape) → IsDealOf (input_words first) t → HasExplanation K plan t (input_words second)
-    explained t d = (excused K t plan (moved_deal K plan t (input_words second)) fresh fresh, others_are_explained p l protocols free K together first second t (dealt_of first second here t d) there)
+    explained t d = (excused K t plan (moved_deal K plan t (input_words second)) fresh fresh, others_are_explained p l protocols K opens together first second t (dealt_of first second here t d) there)
 
   module _ (first second : List (List ℕ)) (there : AgreeFor p l protocols K first second) (here : AgreeFor p l protocols K second first) where
     pub turned : (t y : Tape) → IsDealOf (input_words first) t → Explains K plan t (input_words second) y → Explains K plan y (input_words first) t
     turned t y d e =
         let again : HasExplanation K plan y (input_words first) = explained second first here there y (record { deal = e.deal; inputs = e.inputs }) in
         subst (λ (z : Tape). Explains K plan y (input_words first) z)
-        (same_tape t again.0 (explained_back p l protocols free K first t (input_words second) y again.0 d.deal d.inputs e again.1)) again.1
+        (same_tape t again.0 (explained_back p l protocols opens.chosen K first t (input_words second) y again.0 d.deal d.inputs e again.1)) again.1
 
     pub only : (t y z : Tape) → IsDealOf (input_words first) t → Explains K plan t (input_words second) y → Explains K plan t (input_words second) z → z ≡ y
-    only t y z d e f = same_tape y z (explained_back p l protocols free K second y (input_words first) t z e.deal e.inputs (turned t y d e) f)
+    only t y z d e f = same_tape y z (explained_back p l protocols opens.chosen K second y (input_words first) t z e.deal e.inputs (turned t y d e) f)
 
     -- of items that cross the two runs take equally many
     crossing_rest : (t y : Tape) → IsDealOf (input_words first) t → Explains K plan t (input_words second) y
@@ -107,7 +107,7 @@ module _ (p : NormalForm) (l : Labels) (protocols : List Proto) (free : IsFree p
         )
 
 pub deals_pair_up : DealsPairUp
-deals_pair_up p l protocols free K together first second there here = pair_up p l protocols free K together first second there here
+deals_pair_up p l protocols K opens together first second there here = pair_up p l protocols K opens together first second there here
 
 pub there_are_as_many : ThereAreAsMany
-there_are_as_many p l protocols free K together first second there here = as_many p l protocols free K together first second there here
+there_are_as_many p l protocols K opens together first second there here = as_many p l protocols K opens together first second there here

@@ -12,13 +12,13 @@ use Rattle.vd_views.specs.Promise.{ExplainsOthers, OfEachProgram}
 use Rattle.vd_views.proofs.Theorem.{others_are_explained}
 
 explains : (p : NormalForm) (l : Labels) (released : ℕ → ℕ → ℕ → Bool) (known : ℕ → ℕ → Bool) → ((h : ℕ) → h < length p.hosts → HearsOnlyAssigned p l (host h) (released h) (known h)) → ExplainsOthers p l released known
-explains p l released known hears protocols free K together first second t dealt agree =
+explains p l released known hears protocols K opens together first second t dealt agree =
     let agree_for : AgreeFor p l protocols K first second = record {
       words = agree.words;
       own = agree.own;
-      heard = λ h m. let low = together h m in hears h low low protocols free.chosen.assignment first second (agree.same h m) (agree.declassified h m);
+      heard = λ h m. let low = together h m in hears h low low protocols opens.chosen.assignment first second (agree.same h m) (agree.declassified h m);
     } in
-    (agree_for, others_are_explained p l protocols free K together first second t dealt agree_for)
+    (agree_for, others_are_explained p l protocols K opens together first second t dealt agree_for)
 
 pub readable_inputs_explain : OfEachProgram (λ p l. ExplainsOthers p l (λ h. becomes_readable_to p l (host h)) (λ h. reads_host p (host h)))
 readable_inputs_explain p l well satisfies =

@@ -12,12 +12,12 @@ use Rattle.vd_split.specs.Joint.{acts_then, and_then, joint, Goes}
 use Rattle.vd_backend_laws.specs.Machine.{machine}
 use Rattle.vd_backend_laws.proofs.Front.{runs_alike, goes_smoothly}
 use Rattle.vd_views.specs.Moved.{OwnAlike}
-use Rattle.vd_views.specs.Sides.{AreKin, Both, Telling, PlanIsPlain}
+use Rattle.vd_views.specs.Sides.{AreKin, Both, Telling}
 use Rattle.vd_views.proofs.ViewsBackendsPlans.{plan_both}
 use Rattle.vd_views.specs.Hides.{Hides}
 use Rattle.vd_views.proofs.Plans.{all_hidden}
 use Rattle.vd_views.proofs.ViewsProgramsHiding.{hides_split, hides_behind}
-use Rattle.vd_views.proofs.Compose.{plan_on, acts_on, tidy_split, acts_tidy, within_split, plain_split, nothing_along}
+use Rattle.vd_views.proofs.Compose.{plan_on, acts_on, tidy_split, acts_tidy, within_split, nothing_along}
 use Rattle.vd_views.proofs.Given.{own_behind, own_split}
 
 -- what is known of a plan whatever the states
@@ -25,30 +25,28 @@ pub record Static (plan : Plan Gadget) : Type 0 where
   pub parts : List Part
   pub within : PlanIsWithin parts plan
   pub tidy : PlanIsTidy plan
-  pub plain : PlanIsPlain plan
 
 static_split : (a b : Plan Gadget) → Static (and_then a b) → Static a × Static b
 static_split a b s =
     let i = within_split s.parts a b s.within in
-    let d = tidy_split a b s.tidy in
-    let p = plain_split a b s.plain in (
-      record { parts = s.parts; within = i.0; tidy = d.0; plain = p.0 },
-      record { parts = s.parts; within = i.1; tidy = d.1; plain = p.1 },
+    let d = tidy_split a b s.tidy in (
+      record { parts = s.parts; within = i.0; tidy = d.0 },
+      record { parts = s.parts; within = i.1; tidy = d.1 },
     )
 
 pub static_first : (ps : List Part) (first other rest : Plan Gadget) → Static (Branch ps first other rest) → Static first
-static_first ps first other rest s = record { parts = ps; within = s.tidy.0.1; tidy = s.tidy.1.0; plain = s.plain.0 }
+static_first ps first other rest s = record { parts = ps; within = s.tidy.0.1; tidy = s.tidy.1.0 }
 
 pub static_other : (ps : List Part) (first other rest : Plan Gadget) → Static (Branch ps first other rest) → Static other
-static_other ps first other rest s = record { parts = ps; within = s.tidy.0.2; tidy = s.tidy.1.1.0; plain = s.plain.1.0 }
+static_other ps first other rest s = record { parts = ps; within = s.tidy.0.2; tidy = s.tidy.1.1.0 }
 
 pub static_body : (ps : List Part) (count : ℕ) (body rest : Plan Gadget) → Static (Loop ps count body rest) → Static body
-static_body ps count body rest s = record { parts = ps; within = s.tidy.0.1; tidy = s.tidy.1.1.0; plain = s.plain.0 }
+static_body ps count body rest s = record { parts = ps; within = s.tidy.0.1; tidy = s.tidy.1.1.0 }
 
 -- a plan behind gadgets
 pub static_behind : (xs : List Gadget) (j : Plan Gadget) → Static (acts_then xs j) → Static j
 static_behind [] j s = s
-static_behind (x ∷ xs) j s = static_behind xs j (record { parts = s.parts; within = s.within.1; tidy = s.tidy.1; plain = s.plain.1 })
+static_behind (x ∷ xs) j s = static_behind xs j (record { parts = s.parts; within = s.within.1; tidy = s.tidy.1 })
 
 -- the coalition is told openly the same, and reads the same guards; and what is still to come to each of its hosts agrees
 pub record Concluded (K : Coalition) (t u : Tape) (plan : Plan Gadget) (w v : Hosts) (xs ys : ℕ → List ℕ) : Type 0 where

@@ -218,14 +218,14 @@ pub strangers_take_none : (p : NormalForm) (l : Labels) (protocols : List Proto)
 strangers_take_none p l protocols of_two g s who t = at who
   where
     declared : (ps : List Part) × (AreBelow (length p.hosts) ps × PlanIsWithin ps (plan_of p protocols))
-    declared = all_declared p l protocols of_two.free
+    declared = all_declared p l protocols of_two.free.chosen
 
     two : AreBelow 2 declared.0
     two = subst (λ n. AreBelow n declared.0) of_two.hosts declared.1.0
 
     at : (2 ≤ g) ⊎ IsStranger g s → (joint t (joint_of (plan_of p protocols)) fresh g).cursors s ≤ 0
-    at (inl high) = none_taken g s (third_takes_none g s high) declared.0 two (plan_of p protocols) (plan_is_tidy p l protocols of_two.free) declared.1.1 t
-    at (inr strange) = none_taken g s (stranger_takes_none g s strange) declared.0 two (plan_of p protocols) (plan_is_tidy p l protocols of_two.free) declared.1.1 t
+    at (inl high) = none_taken g s (third_takes_none g s high) declared.0 two (plan_of p protocols) (plan_is_tidy p l protocols of_two.free.chosen) declared.1.1 t
+    at (inr strange) = none_taken g s (stranger_takes_none g s strange) declared.0 two (plan_of p protocols) (plan_is_tidy p l protocols of_two.free.chosen) declared.1.1 t
 
 pub below_two : (g : ℕ) → (g < 2) ⊎ (2 ≤ g)
 below_two zero = inl (omega arith)

@@ -7,6 +7,7 @@ use native.Mathlib.Decide.{ℕ_discrete}
 use mathlib.Core.Path.{fun_ext}
 use Rattle.vd_base.specs.HostSets.{host}
 use Rattle.vd_base.specs.declared.protocols.Proto.{Proto}
+use Rattle.vd_base.specs.declared.protocols.Proto.TheVariants.{Local, Rep, Commit, Add, Xor}
 use Rattle.vd_base.specs.Holders.{proto_in}
 use Rattle.vd_core.specs.declared.normal.NormalForm.{NormalForm}
 use Rattle.vd_core.specs.Facts.{nothing_seen, Seeing, slots_step, seeing_step, seeing_all}
@@ -27,11 +28,12 @@ use Rattle.vd_split.specs.Outcome.{Starts}
 use Rattle.vd_split.specs.ChoreographyPlaces.{is_part}
 use Rattle.vd_split.proofs.Front.{fold_each, or_left, or_right, row_of, slots, program_within, all_fit, no_turns, tied_at_start}
 use Rattle.vd_backend_laws.specs.Machine.{machine}
-use Rattle.vd_backend_laws.specs.Parts.{suite_calls}
+use Rattle.vd_backend_laws.specs.Parts.{has_back_end, suite_calls}
 use Rattle.vd_backend_laws.specs.Suite.{suite}
 use Rattle.vd_backend_laws.specs.Whole.{inputs_of, CanRun, RunsAsToldBy}
 use Rattle.vd_backend_laws.specs.Given.{zero_deal}
-use Rattle.vd_backend_laws.proofs.Front.{zero_deals_are_valid, suite_laws, suite_places, within}
+use Rattle.vd_backend_laws.proofs.Front.{no_back_end, zero_deals_are_valid, suite_laws, suite_places, within}
+use Rattle.vd_projection.specs.Assignments.{IsValidFor}
 use Rattle.vd_projection.proofs.Front.{can_run, each_has, assignments_tell_the_same}
 use Rattle.vd_views.specs.Views.{Coalition, IsIn, IsOut, alone, everyone}
 use Rattle.vd_views.specs.Plans.{PlanChooses}
@@ -47,9 +49,9 @@ use Rattle.vd_views.proofs.WayBack.{first_again}
 use Rattle.vd_noninter.specs.Reading.{start}
 use Rattle.vd_noninter_protocols.specs.Hearing.{Heard, heard_step, heard_in_order}
 use Rattle.vd_noninter_protocols.specs.Told.{IsDealt}
-use Rattle.vd_views.specs.Sides.{AreKin, Both, PlanIsPlain, OwnsInSight, OnlyOutside, AreBelow}
+use Rattle.vd_views.specs.Sides.{AreKin, Both, IsOpenAt, OwnsInSight, OnlyOutside, AreBelow}
 use Rattle.vd_views.proofs.ViewsBackendsPlans.{one_outside}
-use Rattle.vd_views.specs.Explained.{IsFree, IsCoalition, plan_of, input_words, AgreeFor, InputsChooseBranches, OthersAreExplained, ExplainedBack, OwnWordsStay, AllButOneLook, OneOfTwoLooks}
+use Rattle.vd_views.specs.Explained.{IsFree, IsOpen, IsCoalition, plan_of, input_words, AgreeFor, InputsChooseBranches, OthersAreExplained, ExplainedBack, OwnWordsStay, AllButOneLook, OneOfTwoLooks}
 use Rattle.vd_views.proofs.Plain.{plan_plain}
 use Rattle.vd_views.proofs.Steps.{Static, Concluded}
 use Rattle.vd_views.proofs.ViewsProgramsBlocks.{Fitting, follows}
@@ -89,7 +91,7 @@ one_item (x ∷ y ∷ xs) v e f = absurd (omega arith)
 
 -- ---- a program
 
-module _ (p : NormalForm) (l : Labels) (protocols : List Proto) (free : IsFree p l protocols) where
+module _ (p : NormalForm) (l : Labels) (protocols : List Proto) (chosen : IsValidFor p l protocols) where
   abbrev hosts : ℕ
   hosts = length p.hosts
 
@@ -115,10 +117,10 @@ module _ (p : NormalForm) (l : Labels) (protocols : List Proto) (free : IsFree p
 
   module _ (inputs : List (List ℕ)) (t : Tape) (dealt : IsDealt inputs t) where
     can : CanRun p proto inputs t
-    can = can_run p l protocols free.chosen inputs dealt.words t dealt.deal dealt.given
+    can = can_run p l protocols chosen inputs dealt.words t dealt.deal dealt.given
 
     pub runs : RunsAsToldBy p proto inputs t
-    runs = assignments_tell_the_same p l protocols free.chosen inputs dealt.words t dealt.deal dealt.given
+    runs = assignments_tell_the_same p l protocols chosen inputs dealt.words t dealt.deal dealt.given
 
     laws : Laws (machine t (inputs_of inputs)) (suite t (inputs_of inputs) (length p.hosts))
     laws = suite_laws t dealt.deal (inputs_of inputs) dealt.given (length p.hosts)
@@ -149,17 +151,14 @@ module _ (p : NormalForm) (l : Labels) (protocols : List Proto) (free : IsFree p
     within_tree : PlanIsWithin (first_ones 0 hosts) tree
     within_tree = subst (PlanIsWithin (first_ones 0 hosts)) plan_is within_all
 
-    plain : PlanIsPlain tree
-    plain = plan_plain (length p.hosts) proto free.free b begin
-
     static : Static tree
-    static = record { parts = first_ones 0 hosts; within = within_tree; tidy = tidy; plain = plain }
+    static = record { parts = first_ones 0 hosts; within = within_tree; tidy = tidy }
 
-    -- one host alone is outside
-    seen_by_others : (K : Coalition) (k : ℕ) → OnlyOutside K hosts k → OwnsInSight K (plan_of p protocols)
-    seen_by_others K k only =
+    -- one host alone is outside, and nobody is bound
+    seen_by_others : ((x : ℕ) → has_back_end (proto_in protocols x) ≡ true) → (K : Coalition) (k : ℕ) → OnlyOutside K hosts k → OwnsInSight K (plan_of p protocols)
+    seen_by_others free K k only =
         subst (OwnsInSight K) (sym plan_is)
-        (one_outside K hosts k only (first_ones 0 hosts) (λ g i. let lt = first_below 0 hosts g i in omega (arith, lt)) tree tidy plain within_tree)
+        (one_outside K hosts k only (first_ones 0 hosts) (λ g i. let lt = first_below 0 hosts g i in omega (arith, lt)) tree tidy (plan_plain (length p.hosts) proto free b begin) within_tree)
 
   -- ---- a deal with these inputs
 
@@ -175,13 +174,13 @@ module _ (p : NormalForm) (l : Labels) (protocols : List Proto) (free : IsFree p
   module _ (inputs : List (List ℕ)) (t u : Tape) (dealt : IsDealt inputs t) (dealt_too : IsDealt inputs u) where
     fits_both : FitsBoth t u (inputs_of inputs) hosts protocols (laws inputs t dealt) (laws inputs u dealt_too) (can inputs t dealt).over b nothing_seen 0 (λ g. false)
     fits_both = record {
-      row = row_of 0 (length p.slots) (slots (block_of p.body)) (sym (ap concat (fold_each slots_step p.body)) ∙ free.chosen.made.in_order);
-      seen = ap (λ (s : List Seeing). (seeing_all s nothing_seen).all) (sym (fold_each seeing_step p.body)) ∙ free.chosen.made.made_before;
-      fits = all_fit p free.chosen.made free.chosen.numbers;
+      row = row_of 0 (length p.slots) (slots (block_of p.body)) (sym (ap concat (fold_each slots_step p.body)) ∙ chosen.made.in_order);
+      seen = ap (λ (s : List Seeing). (seeing_all s nothing_seen).all) (sym (fold_each seeing_step p.body)) ∙ chosen.made.made_before;
+      fits = all_fit p chosen.made chosen.numbers;
       placed = (can inputs t dealt).valid;
       placed_too = (can inputs u dealt_too).valid;
-      needs = λ g i. absurd (no_turns (machine t (inputs_of inputs)) (suite t (inputs_of inputs) (length p.hosts)) proto p free.chosen.made g i);
-      needs_too = λ g i. absurd (no_turns (machine u (inputs_of inputs)) (suite u (inputs_of inputs) (length p.hosts)) proto p free.chosen.made g i);
+      needs = λ g i. absurd (no_turns (machine t (inputs_of inputs)) (suite t (inputs_of inputs) (length p.hosts)) proto p chosen.made g i);
+      needs_too = λ g i. absurd (no_turns (machine u (inputs_of inputs)) (suite u (inputs_of inputs) (length p.hosts)) proto p chosen.made g i);
     }
 
     no_turn : {X : Type 0} → false ≡ true → X
@@ -204,7 +203,7 @@ module _ (p : NormalForm) (l : Labels) (protocols : List Proto) (free : IsFree p
 
   -- ---- two runs
 
-  module _ (K : Coalition) (together : IsCoalition p K) (first second : List (List ℕ)) (t : Tape) (dealt : IsDealt first t) (agree : AgreeFor p l protocols K first second) where
+  module _ (K : Coalition) (opens : (x : ℕ) → IsOpenAt K (proto_in protocols x)) (together : IsCoalition p K) (first second : List (List ℕ)) (t : Tape) (dealt : IsDealt first t) (agree : AgreeFor p l protocols K first second) where
     own_inputs : (h : ℕ) → IsIn K h → (i : ℕ) → t h Inputs i ≡ input_words second h i ∷ []
     own_inputs h m i = one_item (t h Inputs i) (input_words second h i) (dealt.deal.lengths h Inputs i) (dealt.given h i ∙ agree.own h m i)
 
@@ -232,17 +231,17 @@ module _ (p : NormalForm) (l : Labels) (protocols : List Proto) (free : IsFree p
       kin : AreKin K t y
       kin = record { first = dealt.deal; second = another.deal; part = λ h m. sym (another.part h m ∙ same_part h m) }
 
-      fitting : Fitting K low t y kin (inputs_of first) (inputs_of second) hosts together protocols l (laws first t dealt) (laws second y dealt_too) (can first t dealt).over free.free b nothing_seen 0 (λ g. false)
+      fitting : Fitting K low t y kin (inputs_of first) (inputs_of second) hosts together protocols l (laws first t dealt) (laws second y dealt_too) (can first t dealt).over opens b nothing_seen 0 (λ g. false)
       fitting = record {
-        row = row_of 0 (length p.slots) (slots (block_of p.body)) (sym (ap concat (fold_each slots_step p.body)) ∙ free.chosen.made.in_order);
-        seen = ap (λ (s : List Seeing). (seeing_all s nothing_seen).all) (sym (fold_each seeing_step p.body)) ∙ free.chosen.made.made_before;
-        fits = all_fit p free.chosen.made free.chosen.numbers;
+        row = row_of 0 (length p.slots) (slots (block_of p.body)) (sym (ap concat (fold_each slots_step p.body)) ∙ chosen.made.in_order);
+        seen = ap (λ (s : List Seeing). (seeing_all s nothing_seen).all) (sym (fold_each seeing_step p.body)) ∙ chosen.made.made_before;
+        fits = all_fit p chosen.made chosen.numbers;
         placed = (can first t dealt).valid;
         placed_too = (can second y dealt_too).valid;
-        low = subst (λ n. list_all (λ x. x) (each (stmt_below n) (block_of p.body)) ≡ true) (sym (each_has p l protocols free.chosen))
-            (ap (list_all (λ x. x)) (sym (fold_each (stmt_below (length p.slots)) p.body)) ∙ (well_made_scoped p free.chosen.made).named_slots);
-        needs = λ g i. absurd (no_turns (machine t (inputs_of first)) (suite t (inputs_of first) (length p.hosts)) proto p free.chosen.made g i);
-        needs_too = λ g i. absurd (no_turns (machine y (inputs_of second)) (suite y (inputs_of second) (length p.hosts)) proto p free.chosen.made g i);
+        low = subst (λ n. list_all (λ x. x) (each (stmt_below n) (block_of p.body)) ≡ true) (sym (each_has p l protocols chosen))
+            (ap (list_all (λ x. x)) (sym (fold_each (stmt_below (length p.slots)) p.body)) ∙ (well_made_scoped p chosen.made).named_slots);
+        needs = λ g i. absurd (no_turns (machine t (inputs_of first)) (suite t (inputs_of first) (length p.hosts)) proto p chosen.made g i);
+        needs_too = λ g i. absurd (no_turns (machine y (inputs_of second)) (suite y (inputs_of second) (length p.hosts)) proto p chosen.made g i);
       }
 
       words : (g : ℕ) → IsIn K g → heard_in_order (each (heard_step protocols (host g) l) b) 0 (start p first) ++ [] ≡ heard_in_order (each (heard_step protocols (host g) l) b) 0 (start p second) ++ []
@@ -269,7 +268,7 @@ module _ (p : NormalForm) (l : Labels) (protocols : List Proto) (free : IsFree p
 
       concluded : Concluded K t y tree fresh fresh (λ g. []) (λ g. [])
       concluded =
-          follows K low t y kin (inputs_of first) (inputs_of second) hosts together protocols l (laws first t dealt) (laws second y dealt_too) (can first t dealt).over free.free b nothing_seen 0 (λ g. false) fitting
+          follows K low t y kin (inputs_of first) (inputs_of second) hosts together protocols l (laws first t dealt) (laws second y dealt_too) (can first t dealt).over opens b nothing_seen 0 (λ g. false) fitting
           begin fresh fresh (start p first) (start p second) 0 refl (omega arith)
           (record {
             first = tied_at_start (machine t (inputs_of first)) (suite t (inputs_of first) (length p.hosts)) proto (length p.hosts) refl first fresh (starts first t dealt);
@@ -296,7 +295,20 @@ module _ (p : NormalForm) (l : Labels) (protocols : List Proto) (free : IsFree p
     it_explains = subst (λ (plan : Plan Gadget). IsExplained K plan t (input_words second)) (sym plan_is) (explained K tree t (input_words second) condition)
 
 pub others_are_explained : OthersAreExplained
-others_are_explained p l protocols free K together first second t dealt agree = it_explains p l protocols free K together first second t dealt agree
+others_are_explained p l protocols K opens together first second t dealt agree = it_explains p l protocols opens.chosen K opens.opens together first second t dealt agree
+
+-- ---- who is bound
+
+-- where nobody is bound, nobody outside is
+open_at : (K : Coalition) (q : Proto) → has_back_end q ≡ true → IsOpenAt K q
+open_at K (Local h) e = tt
+open_at K (Rep set) e = tt
+open_at K (Commit u v) e = no_back_end e
+open_at K (Add a b) e = tt
+open_at K (Xor a b) e = tt
+
+pub free_opens : (p : NormalForm) (l : Labels) (protocols : List Proto) → IsFree p l protocols → (K : Coalition) → IsOpen p l protocols K
+free_opens p l protocols free K = record { chosen = free.chosen; opens = λ x. open_at K (proto_in protocols x) (free.free x) }
 
 -- ---- who looks
 
@@ -308,15 +320,15 @@ dealt_zeros =
     record { words = small; deal = v.0; given = v.1 }
 
 -- the plan is tidy, and declared hosts alone take part
-pub plan_is_tidy : (p : NormalForm) (l : Labels) (protocols : List Proto) → IsFree p l protocols → PlanIsTidy (plan_of p protocols)
-plan_is_tidy p l protocols free = (runs p l protocols free [] (zero_deal (inputs_of [])) dealt_zeros).plan_tidy
+pub plan_is_tidy : (p : NormalForm) (l : Labels) (protocols : List Proto) → IsValidFor p l protocols → PlanIsTidy (plan_of p protocols)
+plan_is_tidy p l protocols chosen = (runs p l protocols chosen [] (zero_deal (inputs_of [])) dealt_zeros).plan_tidy
 
-pub all_declared : (p : NormalForm) (l : Labels) (protocols : List Proto) → IsFree p l protocols → (ps : List Part) × (AreBelow (length p.hosts) ps × PlanIsWithin ps (plan_of p protocols))
-all_declared p l protocols free =
-    (first_ones 0 (length p.hosts), ((λ g i. let lt = first_below 0 (length p.hosts) g i in omega (arith, lt)), within_all p l protocols free [] (zero_deal (inputs_of [])) dealt_zeros))
+pub all_declared : (p : NormalForm) (l : Labels) (protocols : List Proto) → IsValidFor p l protocols → (ps : List Part) × (AreBelow (length p.hosts) ps × PlanIsWithin ps (plan_of p protocols))
+all_declared p l protocols chosen =
+    (first_ones 0 (length p.hosts), ((λ g i. let lt = first_below 0 (length p.hosts) g i in omega (arith, lt)), within_all p l protocols chosen [] (zero_deal (inputs_of [])) dealt_zeros))
 
 pub all_but_one_look : AllButOneLook
-all_but_one_look p l protocols free K k only = seen_by_others p l protocols free [] (zero_deal (inputs_of [])) dealt_zeros K k only
+all_but_one_look p l protocols free K k only = seen_by_others p l protocols free.chosen [] (zero_deal (inputs_of [])) dealt_zeros free.free K k only
 
 pub one_of_two_looks : OneOfTwoLooks
 one_of_two_looks p l protocols free two h low =
@@ -335,30 +347,30 @@ one_of_two_looks p l protocols free two h low =
 
 -- whatever is dealt, runs on the same inputs take the same branches
 pub choose_branches : InputsChooseBranches
-choose_branches p l protocols free inputs = subst (λ (plan : Plan Gadget). ChooseBranches plan (input_words inputs)) (sym (plan_is p l protocols free)) (choose_in_tree p l protocols free inputs)
+choose_branches p l protocols chosen inputs = subst (λ (plan : Plan Gadget). ChooseBranches plan (input_words inputs)) (sym (plan_is p l protocols chosen)) (choose_in_tree p l protocols chosen inputs)
 
 -- ---- own words that stay
 
 pub own_words_stay : OwnWordsStay
-own_words_stay p l protocols free K sight second t y e g i =
+own_words_stay p l protocols chosen K sight second t y e g i =
     e.own_words g i
     ∙ ap (λ (m : Moves). t g OwnWords (m.from i))
-    (none_moves K (plan_of p protocols) t y g (places_same K K (λ h m. m) g t y (plan_of p protocols) sight (plan_is_tidy p l protocols free) fresh fresh e.chooses (λ k. refl)))
+    (none_moves K (plan_of p protocols) t y g (places_same K K (λ h m. m) g t y (plan_of p protocols) sight (plan_is_tidy p l protocols chosen) fresh fresh e.chooses (λ k. refl)))
 
 -- so the deal that explains begins with own words as they stand
-pub deal_stays : (p : NormalForm) (l : Labels) (protocols : List Proto) → IsFree p l protocols → (K : Coalition) → IsCoalition p K → OwnsInSight K (plan_of p protocols) → (first second : List (List ℕ)) (t : Tape) → IsDealt first t
+pub deal_stays : (p : NormalForm) (l : Labels) (protocols : List Proto) (K : Coalition) → IsOpen p l protocols K → IsCoalition p K → OwnsInSight K (plan_of p protocols) → (first second : List (List ℕ)) (t : Tape) → IsDealt first t
     → AgreeFor p l protocols K first second → moved_deal K (plan_of p protocols) t (input_words second) ≡ with_inputs t (input_words second)
-deal_stays p l protocols free K together sight first second t dealt agree = fun_ext (λ g. fun_ext (λ s. fun_ext (λ i. at g s i)))
+deal_stays p l protocols K opens together sight first second t dealt agree = fun_ext (λ g. fun_ext (λ s. fun_ext (λ i. at g s i)))
   where
     same : (g : ℕ) → moves_between K (plan_of p protocols) t (with_inputs t (input_words second)) g ≡ stays
     same g =
         let y : Tape = excused K t (plan_of p protocols) (moved_deal K (plan_of p protocols) t (input_words second)) fresh fresh in
-        let e : Explains K (plan_of p protocols) t (input_words second) y = others_are_explained p l protocols free K together first second t dealt agree in
-        let tidy_all : PlanIsTidy (plan_of p protocols) = plan_is_tidy p l protocols free in
+        let e : Explains K (plan_of p protocols) t (input_words second) y = others_are_explained p l protocols K opens together first second t dealt agree in
+        let tidy_all : PlanIsTidy (plan_of p protocols) = plan_is_tidy p l protocols opens.chosen in
         none_moves K (plan_of p protocols) t (with_inputs t (input_words second)) g
         (places_same K K (λ h m. m) g t y (plan_of p protocols) sight tidy_all fresh fresh e.chooses (λ k. refl)
         ∙ places_same K everyone (λ h m. refl) g y (with_inputs t (input_words second)) (plan_of p protocols) (all_sight (plan_of p protocols) tidy_all) tidy_all fresh fresh
-        (choose_branches p l protocols free second y (with_inputs t (input_words second)) e.deal e.inputs (with_inputs_valid t (input_words second) dealt.deal agree.words) (λ k i. refl)) (λ k. refl))
+        (choose_branches p l protocols opens.chosen second y (with_inputs t (input_words second)) e.deal e.inputs (with_inputs_valid t (input_words second) dealt.deal agree.words) (λ k i. refl)) (λ k. refl))
 
     at : (g : ℕ) (s : Source) (i : ℕ) → moved_deal K (plan_of p protocols) t (input_words second) g s i ≡ with_inputs t (input_words second) g s i
     at g Inputs i = refl
@@ -370,5 +382,5 @@ deal_stays p l protocols free K together sight first second t dealt agree = fun_
 -- ---- the way back
 
 pub explained_back : ExplainedBack
-explained_back p l protocols free K first t second y z valid has one two =
-    first_again K (plan_of p protocols) (plan_is_tidy p l protocols free) t (input_words first) second y z (choose_branches p l protocols free first) valid has one two
+explained_back p l protocols chosen K first t second y z valid has one two =
+    first_again K (plan_of p protocols) (plan_is_tidy p l protocols chosen) t (input_words first) second y z (choose_branches p l protocols chosen first) valid has one two

@@ -30,7 +30,7 @@ use Rattle.vd_split.specs.Validity.{Fits, turns_at, Placed, Reaches}
 use Rattle.vd_split.proofs.Front.{and_left, and_right, or_left, or_right, or_none_left, or_none_right, InRow, row_front, row_back, Binding, Variable, Array, Sees, with_use, part, tied_past, Reached, picked_join, operand_of, index_reached, Ties, TurnsIn, After, turns_past, let_after, var_after, array_after, store_after, put_after, output_after, slots, sees, effect_of, turn_here, turn_later, turns_act, no_slots, both_idle, means}
 use Rattle.vd_split.proofs.Front as loops
 use Rattle.vd_backend_laws.specs.Machine.{machine}
-use Rattle.vd_backend_laws.specs.Parts.{has_back_end, suite_calls}
+use Rattle.vd_backend_laws.specs.Parts.{suite_calls}
 use Rattle.vd_backend_laws.specs.Suite.{IsOver, suite}
 use Rattle.vd_views.specs.Views.{Coalition, IsIn, Concerns, LooksAlike}
 use Rattle.vd_views.specs.Hiding.{GadgetKnows, GadgetsKnow}
@@ -39,7 +39,7 @@ use Rattle.vd_views.proofs.Coalitions.{concerns_or_not}
 use Rattle.vd_views.proofs.Blocks.{begun_alike}
 use Rattle.vd_noninter_protocols.specs.Hearing.{Heard, run_of, word_if, comes, comes_alone, index_comes, is_part, heard_in_order, heard_in_turns, heard_step, right_heard}
 use Rattle.vd_noninter_protocols.proofs.Front.{below, runs_each, part_is}
-use Rattle.vd_views.specs.Sides.{AreKin, Both, after, Telling}
+use Rattle.vd_views.specs.Sides.{AreKin, Both, after, IsOpenAt, Telling}
 use Rattle.vd_views.proofs.Sides.{both_all, telling_quiet, telling_on}
 use Rattle.vd_views.proofs.ViewsBackendsPlans.{idle_hides}
 use Rattle.vd_views.proofs.Ordinary.{all_quiet, keep_ordinary, renew_ordinary, output_ordinary, cells_ordinary, put_ordinary}
@@ -126,7 +126,7 @@ opposite false p q = cc
 
 module _ (K : Coalition) (few : (g : ℕ) → IsIn K g → g < 8) (t u : Tape) (kin : AreKin K t u) (inputs others : ℕ → List ℕ) (hosts : ℕ) (known : (g : ℕ) → IsIn K g → g < hosts) (protocols : List Proto) (l : Labels)
     (laws : Laws (machine t inputs) (suite t inputs hosts)) (laws' : Laws (machine u others) (suite u others hosts))
-    (over : (x : ℕ) → IsOver hosts (proto_in protocols x)) (free : (x : ℕ) → has_back_end (proto_in protocols x) ≡ true) where
+    (over : (x : ℕ) → IsOver hosts (proto_in protocols x)) (opens : (x : ℕ) → IsOpenAt K (proto_in protocols x)) where
   abbrev pub proto : ℕ → Proto
   proto = proto_in protocols
 
@@ -272,11 +272,11 @@ module _ (K : Coalition) (few : (g : ℕ) → IsIn K g → g < 8) (t u : Tape) (
     -- the guard is told to each host of the coalition that takes part
     guard_tells : ((g : ℕ) → IsIn K g → (is_part protocols (host g) x (heards g tb) (heards g eb) && comes_alone protocols (host g) x) ≡ true → word_at c x ≡ word_at d x) → Tells guard.acts w v
     guard_tells agrees =
-        delivered_tells K few t u kin inputs others hosts protocols laws laws' over free (proto x.0) (free x.0) (over x.0) (part m s proto e.held x.0) (word_at c x) (word_at d x) ks
+        delivered_tells K few t u kin inputs others hosts protocols laws laws' over opens (proto x.0) (opens x.0) (over x.0) (part m s proto e.held x.0) (word_at c x) (word_at d x) ks
         (picked_join m s laws proto (proto x.0) test 0 hosts (λ g lt i. reaches g (within lt) i) (omega arith)) e.next w v st.first.ready st.second.ready
         (operand_of m s proto laws over o e.next e.held w c st.first x.0 sees_x) (operand_of n s' proto laws' over o e.next e.held v d st.second x.0 sees_x)
         (λ g k same among.
-        same_alone K few t u kin inputs others hosts protocols laws laws' over free g k x (part m s proto e.held x.0) w v (word_at c x) (word_at d x) same (st.first.stands Binding x.0 sees_x) (st.second.stands Binding x.0 sees_x)
+        same_alone K few t u kin inputs others hosts protocols laws laws' over opens g k x (part m s proto e.held x.0) w v (word_at c x) (word_at d x) same (st.first.stands Binding x.0 sees_x) (st.second.stands Binding x.0 sees_x)
         (when_both (is_part protocols (host g) x (heards g tb) (heards g eb)) (comes_alone protocols (host g) x)
         (part_is protocols (host g) l (suite_calls hosts) x tb eb fit1.low fit2.low ∙ picked_passes test 0 hosts g among) (agrees g k)))
       where
@@ -554,7 +554,7 @@ module _ (K : Coalition) (few : (g : ℕ) → IsIn K g → g < 8) (t u : Tape) (
       w v c d c1 d1 turn is small st a1 a2 static hides owns xs ys
       (λ alone some mine.
       acts_concluded K t u kin inputs others made.acts w v (λ g. heard_in_order (heards g rest) turn c1 ++ xs g) (λ g. heard_in_order (heards g rest) turn d1 ++ ys g) alone st.both some mine
-      (right_tells K few t u kin inputs others hosts protocols laws laws' over free o e w v c d st.first st.second x right (below (length protocols) x (and_left (is_below (length protocols) x) (right_below (length protocols) right) here)) sees_right fit.placed.0
+      (right_tells K few t u kin inputs others hosts protocols laws laws' over opens o e w v c d st.first st.second x right (below (length protocols) x (and_left (is_below (length protocols) x) (right_below (length protocols) right) here)) sees_right fit.placed.0
       (array_below right (and_right (is_below (length protocols) x) (right_below (length protocols) right) here)) (λ g i. (off g i).0)) (λ g i. (off g i).1))
   follows (NewVar a y rest) o k has fit e w v c d turn is small st static hides owns xs ys words =
       let here = and_left (is_below (length protocols) a && is_below (length protocols) y) (low_block rest) fit.low in
@@ -583,7 +583,7 @@ module _ (K : Coalition) (few : (g : ℕ) → IsIn K g → g < 8) (t u : Tape) (
       (λ alone some mine.
       acts_concluded K t u kin inputs others (moved.acts ++ kept.acts) w v (λ g. heard_in_order (heards g rest) turn c1 ++ xs g) (λ g. heard_in_order (heards g rest) turn d1 ++ ys g) alone st.both some mine
       (telling_on K t u kin moved.acts kept.acts w v (after t moved.acts w) (after u moved.acts v) refl refl
-      (word_tells K few t u kin inputs others hosts protocols laws laws' over free o e w v c d st.first st.second y a (below (length protocols) a (and_left (is_below (length protocols) a) (is_below (length protocols) y) here)) sees_y fit.placed.1 (λ g i. (off g i).0))
+      (word_tells K few t u kin inputs others hosts protocols laws laws' over opens o e w v c d st.first st.second y a (below (length protocols) a (and_left (is_below (length protocols) a) (is_below (length protocols) y) here)) sees_y fit.placed.1 (λ g i. (off g i).0))
       (telling_quiet K t u kin kept.acts (after t moved.acts w) (after u moved.acts v) (all_quiet kept.acts (keep_ordinary (proto a.0) moved.given.at moved.next)))) (λ g i. (off g i).1))
   follows (NewArray a size rest) o k has fit e w v c d turn is small st static hides owns xs ys words =
       let made = (suite_calls hosts).cells (proto a.0) size e.next in
@@ -633,7 +633,7 @@ module _ (K : Coalition) (few : (g : ℕ) → IsIn K g → g < 8) (t u : Tape) (
       (λ alone some mine.
       acts_concluded K t u kin inputs others (moved.acts ++ acts) w v (λ g. heard_in_order (heards g rest) turn c1 ++ xs g) (λ g. heard_in_order (heards g rest) turn d1 ++ ys g) alone st.both some mine
       (telling_on K t u kin moved.acts acts w v (after t moved.acts w) (after u moved.acts v) refl refl
-      (word_tells K few t u kin inputs others hosts protocols laws laws' over free o e w v c d st.first st.second y a (below (length protocols) a (and_left (is_below (length protocols) a) (is_below (length protocols) y) here)) (and_right _ _ seen_here) fit.placed.1 (λ g i. (off g i).0))
+      (word_tells K few t u kin inputs others hosts protocols laws laws' over opens o e w v c d st.first st.second y a (below (length protocols) a (and_left (is_below (length protocols) a) (is_below (length protocols) y) here)) (and_right _ _ seen_here) fit.placed.1 (λ g i. (off g i).0))
       (telling_quiet K t u kin acts (after t moved.acts w) (after u moved.acts v) (all_quiet acts (renew_ordinary (proto a.0) (part m s proto e.held a.0).at moved.given.at)))) (λ g i. (off g i).1))
   follows (Put a i y rest) o k has fit e w v c d turn is small st static hides owns xs ys words =
       let here = and_left _ _ fit.low in
@@ -680,8 +680,8 @@ module _ (K : Coalition) (few : (g : ℕ) → IsIn K g → g < 8) (t u : Tape) (
       acts_concluded K t u kin inputs others ((index.acts ++ moved.acts) ++ acts) w v (λ g. rc g ++ xs g) (λ g. rd g ++ ys g) alone st.both some mine
       (telling_on K t u kin (index.acts ++ moved.acts) acts w v (after t (index.acts ++ moved.acts) w) (after u (index.acts ++ moved.acts) v) refl refl
       (telling_on K t u kin index.acts moved.acts w v b1.reached b2.reached (same_run t inputs index.acts w ∙ b1.leads.runs) (same_run u others index.acts v ∙ b2.leads.runs)
-      (index_tells K few t u kin inputs others hosts protocols laws laws' over free o e w v c d st.first st.second a i below_a sees_i fit.placed.2 (λ g m. (first g m).0))
-      (word_tells K few t u kin inputs others hosts protocols laws laws' over free o (record { next = index.next; held = e.held; loop = e.loop }) b1.reached b2.reached c d t1 t2 y a below_a sees_y fit.placed.1 (λ g m. (off g m).0)))
+      (index_tells K few t u kin inputs others hosts protocols laws laws' over opens o e w v c d st.first st.second a i below_a sees_i fit.placed.2 (λ g m. (first g m).0))
+      (word_tells K few t u kin inputs others hosts protocols laws laws' over opens o (record { next = index.next; held = e.held; loop = e.loop }) b1.reached b2.reached c d t1 t2 y a below_a sees_y fit.placed.1 (λ g m. (off g m).0)))
       (telling_quiet K t u kin acts (after t (index.acts ++ moved.acts) w) (after u (index.acts ++ moved.acts) v) (all_quiet acts (put_ordinary (proto a.0) (part m s proto e.held a.0) index.given moved.given.at)))) (λ g i. (off g i).1))
   follows (Output y g offset rest) o k has fit e w v c d turn is small st static hides owns xs ys words =
       let sees_y = and_left _ _ fit.seen in
@@ -710,9 +710,9 @@ module _ (K : Coalition) (few : (g : ℕ) → IsIn K g → g < 8) (t u : Tape) (
       (λ alone some mine.
       acts_concluded K t u kin inputs others (moved.acts ++ acts) w v (λ g. heard_in_order (heards g rest) turn c1 ++ xs g) (λ g. heard_in_order (heards g rest) turn d1 ++ ys g) alone st.both some mine
       (telling_on K t u kin moved.acts acts w v (after t moved.acts w) (after u moved.acts v) refl refl
-      (moved_tells K few t u kin inputs others hosts protocols laws laws' over free o e.next e.held w v c d st.first st.second y sees_y (Local g) refl fit.placed.0
+      (moved_tells K few t u kin inputs others hosts protocols laws laws' over opens o e.next e.held w v c d st.first st.second y sees_y (Local g) tt fit.placed.0
       (λ f i same own.
-      same_alone K few t u kin inputs others hosts protocols laws laws' over free f i y (part m s proto e.held y.0) w v (word_at c y) (word_at d y) same (st.first.stands Binding y.0 sees_y) (st.second.stands Binding y.0 sees_y)
+      same_alone K few t u kin inputs others hosts protocols laws laws' over opens f i y (part m s proto e.held y.0) w v (word_at c y) (word_at d y) same (st.first.stands Binding y.0 sees_y) (st.second.stands Binding y.0 sees_y)
       (when_both (same_host (host f) g) (comes_alone protocols (host f) y) (eq-eqb f g.0 own) (off f i).0)))
       (telling_quiet K t u kin acts (after t moved.acts w) (after u moved.acts v) (all_quiet acts (output_ordinary g moved.given.at)))) (λ g i. (off g i).1))
   follows (If x tb eb offset rest) o k has fit e w v c d turn is small st static hides owns xs ys words =

@@ -26,13 +26,13 @@ use Rattle.vd_split.specs.Emission.{Emitting, parts_at, delivered, all_moved, ri
 use Rattle.vd_split.specs.Validity.{RightPlaced, Reaches}
 use Rattle.vd_split.proofs.Front.{and_left, and_right, Binding, Variable, Array, Sees, part, Unchanging, Tied, Between, between_of, ready_past, gives_on, operand_past, Movable, all_past, picked_join, operand_of, operand_of_variable, movables, index_reached}
 use Rattle.vd_backend_laws.specs.Machine.{machine}
-use Rattle.vd_backend_laws.specs.Parts.{Parts, has_back_end, suite_calls}
+use Rattle.vd_backend_laws.specs.Parts.{Parts, suite_calls}
 use Rattle.vd_backend_laws.specs.Suite.{IsOver, stands as slot_stands, suite}
 use Rattle.vd_backend_laws.proofs.Front.{holder_at}
 use Rattle.vd_noninter_protocols.specs.Hearing.{stands, comes, comes_alone, index_comes}
 use Rattle.vd_noninter_protocols.proofs.Front.{kept_at, in_clear}
 use Rattle.vd_views.specs.Views.{Coalition, IsIn}
-use Rattle.vd_views.specs.Sides.{AreKin, after, Telling, Each as EachOf, HasClear}
+use Rattle.vd_views.specs.Sides.{AreKin, after, Telling, Each as EachOf, HasClear, IsOpenAt}
 use Rattle.vd_views.proofs.Sides.{telling_quiet, telling_on}
 use Rattle.vd_views.proofs.Ordinary.{all_quiet, literal_ordinary, apply_ordinary, keep_ordinary, turn_ordinary, input_ordinary, get_ordinary}
 use Rattle.vd_views.proofs.Moves.{move_tells}
@@ -109,7 +109,7 @@ same_run t inputs (g ∷ gs) w = same_run t inputs gs (run_some t (acts_of_gadge
 
 module _ (K : Coalition) (low : (g : ℕ) → IsIn K g → g < 8) (t u : Tape) (kin : AreKin K t u) (inputs others : ℕ → List ℕ) (hosts : ℕ) (protocols : List Proto)
     (laws : Laws (machine t inputs) (suite t inputs hosts)) (laws' : Laws (machine u others) (suite u others hosts))
-    (over : (x : ℕ) → IsOver hosts (proto_in protocols x)) (free : (x : ℕ) → has_back_end (proto_in protocols x) ≡ true) where
+    (over : (x : ℕ) → IsOver hosts (proto_in protocols x)) (opens : (x : ℕ) → IsOpenAt K (proto_in protocols x)) where
   abbrev pub proto : ℕ → Proto
   proto = proto_in protocols
 
@@ -158,10 +158,10 @@ module _ (K : Coalition) (low : (g : ℕ) → IsIn K g → g < 8) (t u : Tape) (
   -- ---- moves
 
   pub moved_tells : (o : Sight) (next : List ℕ) (held : List Parts) (w v : Hosts) (c d : SlotState) → Tied m s proto o next held w c → Tied n s' proto o next held v d
-      → (y : SlotId) → Sees o Binding y.0 → (q : Proto) → has_back_end q ≡ true → s.joins (proto y.0) q ≡ true → ((g : ℕ) → IsIn K g → w g ≡ v g → HasClear g q → word_at c y ≡ word_at d y)
+      → (y : SlotId) → Sees o Binding y.0 → (q : Proto) → IsOpenAt K q → s.joins (proto y.0) q ≡ true → ((g : ℕ) → IsIn K g → w g ≡ v g → HasClear g q → word_at c y ≡ word_at d y)
       → Tells ((suite_calls hosts).move (proto y.0) q (part m s proto held y.0) next).acts w v
   moved_tells o next held w v c d t1 t2 y sees q f joins same both tidy hides owns =
-      move_tells K t u kin inputs others hosts (proto y.0) q (free y.0) f (over y.0) joins (part m s proto held y.0) next w v (word_at c y) (word_at d y)
+      move_tells K t u kin inputs others hosts (proto y.0) q (opens y.0) f (over y.0) joins (part m s proto held y.0) next w v (word_at c y) (word_at d y)
       (record {
         ready = t1.ready;
         ready_too = t2.ready;
@@ -171,7 +171,7 @@ module _ (K : Coalition) (low : (g : ℕ) → IsIn K g → g < 8) (t u : Tape) (
       (λ g m. same g m (both.looks g m).itself) both tidy hides owns
 
   -- a word that is moved to each of some hosts
-  each_told : (p : Proto) → has_back_end p ≡ true → IsOver hosts p → (x : Parts) (a b : ℕ) (ks : List HostId) → Each (λ k. (k.0 < hosts) × (s.joins p (Local k) ≡ true)) ks → (next : List ℕ) (w v : Hosts)
+  each_told : (p : Proto) → IsOpenAt K p → IsOver hosts p → (x : Parts) (a b : ℕ) (ks : List HostId) → Each (λ k. (k.0 < hosts) × (s.joins p (Local k) ≡ true)) ks → (next : List ℕ) (w v : Hosts)
       → Ready m s next w → Ready n s' next v → Operand m s next w p x a → Operand n s' next v p x b → ((g : ℕ) → IsIn K g → IsHost ks g → a ≡ b) → Tells (delivered (suite_calls hosts) proto p x ks next).acts w v
   each_told p f ov x a b [] joins next w v r1 r2 o1 o2 same = λ both tidy hides owns. tt
   each_told p f ov x a b (k ∷ ks) joins next w v r1 r2 o1 o2 same =
@@ -181,11 +181,11 @@ module _ (K : Coalition) (low : (g : ℕ) → IsIn K g → g < 8) (t u : Tape) (
       let b1 : Between m s next w one.acts one.next = between_of m s next (s.Names x) one w (Local k) (Word a) g1 in
       let b2 : Between n s' next v one.acts one.next = between_of n s' next (s'.Names x) one v (Local k) (Word b) g2 in
       telling_on K t u kin one.acts (delivered (suite_calls hosts) proto p x ks one.next).acts w v g1.reached g2.reached (same_run t inputs one.acts w ∙ g1.leads.runs) (same_run u others one.acts v ∙ g2.leads.runs)
-      (move_tells K t u kin inputs others hosts p (Local k) f refl ov joins.0.1 x next w v a b (record { ready = r1; ready_too = r2; first = o1; second = o2 }) (λ g m i. same g m (inl i)))
+      (move_tells K t u kin inputs others hosts p (Local k) f tt ov joins.0.1 x next w v a b (record { ready = r1; ready_too = r2; first = o1; second = o2 }) (λ g m i. same g m (inl i)))
       (each_told p f ov x a b ks joins.1 one.next g1.reached g2.reached (ready_past m s next w one.acts one.next r1 b1) (ready_past n s' next v one.acts one.next r2 b2)
       (operand_past m s laws next w one.acts one.next p x a b1 o1) (operand_past n s' laws' next v one.acts one.next p x b b2 o2) (λ g m i. same g m (inr i)))
 
-  pub delivered_tells : (p : Proto) → has_back_end p ≡ true → IsOver hosts p → (x : Parts) (a b : ℕ) (ks : List HostId) → Each (λ k. (k.0 < hosts) × (s.joins p (Local k) ≡ true)) ks → (next : List ℕ) (w v : Hosts)
+  pub delivered_tells : (p : Proto) → IsOpenAt K p → IsOver hosts p → (x : Parts) (a b : ℕ) (ks : List HostId) → Each (λ k. (k.0 < hosts) × (s.joins p (Local k) ≡ true)) ks → (next : List ℕ) (w v : Hosts)
       → Ready m s next w → Ready n s' next v → Operand m s next w p x a → Operand n s' next v p x b → ((g : ℕ) → IsIn K g → w g ≡ v g → IsHost ks g → a ≡ b) → Tells (delivered (suite_calls hosts) proto p x ks next).acts w v
   delivered_tells p f ov x a b ks joins next w v r1 r2 o1 o2 same both tidy hides owns = each_told p f ov x a b ks joins next w v r1 r2 o1 o2 (λ g m. same g m (both.looks g m).itself) both tidy hides owns
 
@@ -207,7 +207,7 @@ module _ (K : Coalition) (low : (g : ℕ) → IsIn K g → g < 8) (t u : Tape) (
       let b2 : Between n s' next v one.acts one.next = between_of n s' next (s'.Names from) one v (proto x.0) (Word (g y)) g2 in
       telling_on K t u kin one.acts (all_moved (suite_calls hosts) proto (proto x.0) e ys one.next).acts w v g1.reached g2.reached (same_run t inputs one.acts w ∙ g1.leads.runs) (same_run u others one.acts v ∙ g2.leads.runs)
       (λ both tidy hides owns.
-      move_tells K t u kin inputs others hosts (proto y.0) (proto x.0) (free y.0) (free x.0) (over y.0) o1.joins from next w v (f y) (g y) (record { ready = r1; ready_too = r2; first = o1.operand; second = o2.operand })
+      move_tells K t u kin inputs others hosts (proto y.0) (proto x.0) (opens y.0) (opens x.0) (over y.0) o1.joins from next w v (f y) (g y) (record { ready = r1; ready_too = r2; first = o1.operand; second = o2.operand })
       (λ k i. same_word k i y x below from w v (f y) (g y) (both.looks k i).itself o1.operand.stands o2.operand.stands (agrees k i).0) both tidy hides owns)
       (operands_tell x below e f g source source' ys one.next g1.reached g2.reached (ready_past m s next w one.acts one.next r1 b1) (ready_past n s' next v one.acts one.next r2 b2)
       (all_past m s laws proto next w one.acts one.next source (proto x.0) e f b1 ys all1.1) (all_past n s' laws' proto next v one.acts one.next source' (proto x.0) e g b2 ys all2.1) (λ k i. (agrees k i).1))
@@ -222,14 +222,14 @@ module _ (K : Coalition) (low : (g : ℕ) → IsIn K g → g < 8) (t u : Tape) (
     pub word_tells : (y x : SlotId) → x.0 < length protocols → Sees o Binding y.0 → s.joins (proto y.0) (proto x.0) ≡ true → ((g : ℕ) → IsIn K g → comes protocols (host g) y x ≡ true → word_at c y ≡ word_at d y)
         → Tells ((suite_calls hosts).move (proto y.0) (proto x.0) (held y) e.next).acts w v
     word_tells y x below sees joins agrees =
-        moved_tells o e.next e.held w v c d t1 t2 y sees (proto x.0) (free x.0) joins
+        moved_tells o e.next e.held w v c d t1 t2 y sees (proto x.0) (opens x.0) joins
         (λ g i same has. same_word g i y x below (held y) w v (word_at c y) (word_at d y) same (t1.stands Binding y.0 sees) (t2.stands Binding y.0 sees) (agrees g i) has)
 
     -- an index, moved to each host at which the array is kept
     pub index_tells : (a i : SlotId) → a.0 < length protocols → Sees o Binding i.0 → Reaches m s proto i (λ k. is_holder (proto a.0) (host k)) → ((g : ℕ) → IsIn K g → index_comes protocols (host g) a i ≡ true → word_at c i ≡ word_at d i)
         → Tells (delivered (suite_calls hosts) proto (proto i.0) (held i) (holders_among (suite_calls hosts) (proto a.0)) e.next).acts w v
     index_tells a i below sees reaches agrees =
-        delivered_tells (proto i.0) (free i.0) (over i.0) (held i) (word_at c i) (word_at d i) (holders_among (suite_calls hosts) (proto a.0))
+        delivered_tells (proto i.0) (opens i.0) (over i.0) (held i) (word_at c i) (word_at d i) (holders_among (suite_calls hosts) (proto a.0))
         (picked_join m s laws proto (proto i.0) (λ k. is_holder (proto a.0) (host k)) 0 hosts (λ k lt is. reaches k (within lt) is) (omega arith)) e.next w v t1.ready t2.ready
         (operand_of m s proto laws over o e.next e.held w c t1 i.0 sees) (operand_of n s' proto laws' over o e.next e.held v d t2 i.0 sees)
         (λ g k same among. same_alone g k i (held i) w v (word_at c i) (word_at d i) same (t1.stands Binding i.0 sees) (t2.stands Binding i.0 sees)
@@ -263,7 +263,7 @@ module _ (K : Coalition) (low : (g : ℕ) → IsIn K g → g < 8) (t u : Tape) (
         telling_on K t u kin kept.acts more.acts w v g1.reached g2.reached (same_run t inputs kept.acts w ∙ g1.leads.runs) (same_run u others kept.acts v ∙ g2.leads.runs)
         (telling_quiet K t u kin kept.acts w v (all_quiet kept.acts (keep_ordinary (proto a.0) (held a).at e.next)))
         (λ both tidy hides owns.
-        move_tells K t u kin inputs others hosts (proto a.0) (proto x.0) (free a.0) (free x.0) (over a.0) placed.1 kept.given kept.next g1.reached g2.reached (word_at c a) (word_at d a)
+        move_tells K t u kin inputs others hosts (proto a.0) (proto x.0) (opens a.0) (opens x.0) (over a.0) placed.1 kept.given kept.next g1.reached g2.reached (word_at c a) (word_at d a)
         (record {
           ready = ready_past m s e.next w kept.acts kept.next t1.ready b1;
           ready_too = ready_past n s' e.next v kept.acts kept.next t2.ready b2;
@@ -287,7 +287,7 @@ module _ (K : Coalition) (low : (g : ℕ) → IsIn K g → g < 8) (t u : Tape) (
         (telling_on K t u kin index.acts got.acts w v (after t index.acts w) (after u index.acts v) refl refl (index_tells a i (known a i refl) sees_i placed.2 (λ k j. (agrees k j).0))
         (telling_quiet K t u kin got.acts (after t index.acts w) (after u index.acts v) (all_quiet got.acts (get_ordinary (proto a.0) (held a) index.given index.next))))
         (λ both tidy hides owns.
-        move_tells K t u kin inputs others hosts (proto a.0) (proto x.0) (free a.0) (free x.0) (over a.0) placed.1 got.given got.next g1.reached g2.reached p q
+        move_tells K t u kin inputs others hosts (proto a.0) (proto x.0) (opens a.0) (opens x.0) (over a.0) placed.1 got.given got.next g1.reached g2.reached p q
         (record {
           ready = ready_past m s e.next w (index.acts ++ got.acts) got.next t1.ready b1;
           ready_too = ready_past n s' e.next v (index.acts ++ got.acts) got.next t2.ready b2;

@@ -10,7 +10,8 @@ use Rattle.vd_execution.specs.Claims.{reached}
 use Rattle.vd_views.specs.Views.{Coalition, IsIn}
 use Rattle.vd_views.specs.Contract.{Explains}
 use Rattle.vd_noninter_protocols.specs.Told.{IsDealt}
-use Rattle.vd_views.specs.Explained.{IsFree, plan_of, input_words}
+use Rattle.vd_projection.specs.Assignments.{IsValidFor}
+use Rattle.vd_views.specs.Explained.{plan_of, input_words}
 
 -- the world that a schedule reaches with this deal
 abbrev pub world_after : Plan Gadget → Tape → List ℕ → World
@@ -29,5 +30,5 @@ pub record SeesFronts (K : Coalition) (a b : World) : Type 0 where
 
 abbrev pub SeesFrontsInAnyOrder : Type 0
 SeesFrontsInAnyOrder =
-    (p : NormalForm) (l : Labels) (protocols : List Proto) → IsFree p l protocols → (K : Coalition) → (first second : List (List ℕ)) (t y : Tape) → IsDealt first t → IsDealt second y
+    (p : NormalForm) (l : Labels) (protocols : List Proto) → IsValidFor p l protocols → (K : Coalition) → (first second : List (List ℕ)) (t y : Tape) → IsDealt first t → IsDealt second y
     → Explains K (plan_of p protocols) t (input_words second) y → (a b : List ℕ) → SeesFronts K (world_after (plan_of p protocols) t a) (world_after (plan_of p protocols) y b)

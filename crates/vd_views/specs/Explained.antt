@@ -17,9 +17,14 @@ use Rattle.vd_execution.specs.Step.{OwnWords}
 use Rattle.vd_views.specs.Contract.{InputWords, Explains, ChooseBranches, IsExplained, GoesBackTo}
 use Rattle.vd_noninter_protocols.specs.Assigned.{heard_words}
 use Rattle.vd_noninter_protocols.specs.Told.{IsDealt}
-use Rattle.vd_views.specs.Sides.{OwnsInSight, OnlyOutside}
+use Rattle.vd_views.specs.Sides.{IsOpenAt, OwnsInSight, OnlyOutside}
 
--- a program at a valid assignment of protocols, none of them a commitment
+-- a program at a valid assignment of protocols, none of them a commitment by a host outside to one of the coalition
+pub record IsOpen (p : NormalForm) (l : Labels) (protocols : List Proto) (K : Coalition) : Type 0 where
+  pub chosen : IsValidFor p l protocols
+  pub opens : (x : ℕ) → IsOpenAt K (proto_in protocols x)
+
+-- and none of them a commitment at all
 pub record IsFree (p : NormalForm) (l : Labels) (protocols : List Proto) : Type 0 where
   pub chosen : IsValidFor p l protocols
   pub free : (x : ℕ) → has_back_end (proto_in protocols x) ≡ true
@@ -44,7 +49,7 @@ IsCoalition p K = (g : ℕ) → IsIn K g → g < length p.hosts
 -- whatever is dealt, each run on these inputs takes the same branches
 abbrev pub InputsChooseBranches : Type 0
 InputsChooseBranches =
-    (p : NormalForm) (l : Labels) (protocols : List Proto) → IsFree p l protocols → (inputs : List (List ℕ)) → ChooseBranches (plan_of p protocols) (input_words inputs)
+    (p : NormalForm) (l : Labels) (protocols : List Proto) → IsValidFor p l protocols → (inputs : List (List ℕ)) → ChooseBranches (plan_of p protocols) (input_words inputs)
 
 -- other inputs of words: each host of the coalition has the same, and the same clear words come to it
 pub record AgreeFor (p : NormalForm) (l : Labels) (protocols : List Proto) (K : Coalition) (first second : List (List ℕ)) : Type 0 where
@@ -57,20 +62,20 @@ pub record AgreeFor (p : NormalForm) (l : Labels) (protocols : List Proto) (K : 
 -- of the first
 abbrev pub OthersAreExplained : Type 0
 OthersAreExplained =
-    (p : NormalForm) (l : Labels) (protocols : List Proto) → IsFree p l protocols → (K : Coalition) → IsCoalition p K → (first second : List (List ℕ)) (t : Tape) → IsDealt first t → AgreeFor p l protocols K first second
+    (p : NormalForm) (l : Labels) (protocols : List Proto) (K : Coalition) → IsOpen p l protocols K → IsCoalition p K → (first second : List (List ℕ)) (t : Tape) → IsDealt first t → AgreeFor p l protocols K first second
     → IsExplained K (plan_of p protocols) t (input_words second)
 
 -- and explained back, the first deal comes again
 abbrev pub ExplainedBack : Type 0
-ExplainedBack = (p : NormalForm) (l : Labels) (protocols : List Proto) → IsFree p l protocols → (K : Coalition) (first : List (List ℕ)) → GoesBackTo K (plan_of p protocols) (input_words first)
+ExplainedBack = (p : NormalForm) (l : Labels) (protocols : List Proto) → IsValidFor p l protocols → (K : Coalition) (first : List (List ℕ)) → GoesBackTo K (plan_of p protocols) (input_words first)
 
 -- where own words are taken in sight of the coalition, none moves
 abbrev pub OwnWordsStay : Type 0
 OwnWordsStay =
-    (p : NormalForm) (l : Labels) (protocols : List Proto) → IsFree p l protocols → (K : Coalition) → OwnsInSight K (plan_of p protocols) → (second : InputWords) (t y : Tape) → Explains K (plan_of p protocols) t second y
+    (p : NormalForm) (l : Labels) (protocols : List Proto) → IsValidFor p l protocols → (K : Coalition) → OwnsInSight K (plan_of p protocols) → (second : InputWords) (t y : Tape) → Explains K (plan_of p protocols) t second y
     → (g i : ℕ) → y g OwnWords i ≡ t g OwnWords i
 
--- where one host alone is outside, own words are taken in sight of the others
+-- where one host alone is outside, and nobody is bound, own words are taken in sight of the others
 abbrev pub AllButOneLook : Type 0
 AllButOneLook = (p : NormalForm) (l : Labels) (protocols : List Proto) → IsFree p l protocols → (K : Coalition) (k : ℕ) → OnlyOutside K (length p.hosts) k → OwnsInSight K (plan_of p protocols)
 

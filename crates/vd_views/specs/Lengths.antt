@@ -12,7 +12,7 @@ use Rattle.vd_execution.specs.Plans.{Plan, joint_of}
 use Rattle.vd_views.specs.Views.{Coalition, IsIn, SameParts, LookAlike}
 use Rattle.vd_views.specs.Contract.{InputWords, Explains}
 use Rattle.vd_views.specs.Sides.{Each}
-use Rattle.vd_views.specs.Explained.{IsFree, IsCoalition, plan_of, input_words, AgreeFor}
+use Rattle.vd_views.specs.Explained.{IsOpen, IsCoalition, plan_of, input_words, AgreeFor}
 use Rattle.vd_views.specs.PairUp.{IsDealOf, AreDifferent}
 
 -- how many items each host has of each source
@@ -39,7 +39,7 @@ OwnFits n plan given = (t : Tape) → IsDealOf given t → (g : ℕ) → (joint 
 -- what explains another run is as long, and the run takes no item past its end, if its own words reach
 abbrev pub ExcusesAreAsLong : Type 0
 ExcusesAreAsLong =
-    (p : NormalForm) (l : Labels) (protocols : List Proto) → IsFree p l protocols → (K : Coalition) → IsCoalition p K → (second : InputWords) (t y : Tape) → IsValidDeal t → Explains K (plan_of p protocols) t second y
+    (p : NormalForm) (l : Labels) (protocols : List Proto) (K : Coalition) → IsOpen p l protocols K → IsCoalition p K → (second : InputWords) (t y : Tape) → IsValidDeal t → Explains K (plan_of p protocols) t second y
     → (n : Lengths) → IsLongEnough K n (plan_of p protocols) t → ((g : ℕ) → (joint y (joint_of (plan_of p protocols)) fresh g).cursors OwnWords ≤ n g OwnWords) → IsLongEnough K n (plan_of p protocols) y
 
 -- ---- so there are equally many of given lengths that show the coalition the same
@@ -69,6 +69,6 @@ pub record AreAll {X : Type 0} (P : X → Type 0) (ts : List X) : Type 0 where
 -- the runs on both
 abbrev pub ShowEquallyMany : Type 0
 ShowEquallyMany =
-    (p : NormalForm) (l : Labels) (protocols : List Proto) → IsFree p l protocols → (K : Coalition) → IsCoalition p K → (first second : List (List ℕ)) → AgreeFor p l protocols K first second → AgreeFor p l protocols K second first
+    (p : NormalForm) (l : Labels) (protocols : List Proto) (K : Coalition) → IsOpen p l protocols K → IsCoalition p K → (first second : List (List ℕ)) → AgreeFor p l protocols K first second → AgreeFor p l protocols K second first
     → (n : Lengths) → OwnFits n (plan_of p protocols) (input_words first) → OwnFits n (plan_of p protocols) (input_words second) → (t : Tape) (ts : List Tape) → AreAll (Shows K (plan_of p protocols) n t (input_words first)) ts
     → (ys : List Tape) × (length ys ≡ length ts) × AreAll (Shows K (plan_of p protocols) n t (input_words second)) ys

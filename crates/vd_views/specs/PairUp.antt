@@ -12,7 +12,7 @@ use Rattle.vd_execution.specs.Plans.{Plan, joint_of}
 use Rattle.vd_views.specs.Views.{Coalition}
 use Rattle.vd_views.specs.Contract.{InputWords, HasInputs, Explains, HasExplanation}
 use Rattle.vd_views.specs.Sides.{Each}
-use Rattle.vd_views.specs.Explained.{IsFree, IsCoalition, plan_of, input_words, AgreeFor}
+use Rattle.vd_views.specs.Explained.{IsOpen, IsCoalition, plan_of, input_words, AgreeFor}
 
 -- a valid deal with these inputs
 pub record IsDealOf (given : InputWords) (t : Tape) : Type 0 where
@@ -30,7 +30,7 @@ pub record PairUp (K : Coalition) (plan : Plan Gadget) (first second : InputWord
 
 abbrev pub DealsPairUp : Type 0
 DealsPairUp =
-    (p : NormalForm) (l : Labels) (protocols : List Proto) → IsFree p l protocols → (K : Coalition) → IsCoalition p K → (first second : List (List ℕ)) → AgreeFor p l protocols K first second → AgreeFor p l protocols K second first
+    (p : NormalForm) (l : Labels) (protocols : List Proto) (K : Coalition) → IsOpen p l protocols K → IsCoalition p K → (first second : List (List ℕ)) → AgreeFor p l protocols K first second → AgreeFor p l protocols K second first
     → PairUp K (plan_of p protocols) (input_words first) (input_words second)
 
 -- ---- so there are equally many
@@ -52,5 +52,5 @@ AsMany K plan first second =
 
 abbrev pub ThereAreAsMany : Type 0
 ThereAreAsMany =
-    (p : NormalForm) (l : Labels) (protocols : List Proto) → IsFree p l protocols → (K : Coalition) → IsCoalition p K → (first second : List (List ℕ)) → AgreeFor p l protocols K first second → AgreeFor p l protocols K second first
+    (p : NormalForm) (l : Labels) (protocols : List Proto) (K : Coalition) → IsOpen p l protocols K → IsCoalition p K → (first second : List (List ℕ)) → AgreeFor p l protocols K first second → AgreeFor p l protocols K second first
     → AsMany K (plan_of p protocols) (input_words first) (input_words second)

@@ -12,7 +12,7 @@ use Rattle.vd_noninter.specs.Reading.{declassified_words, SameInputs}
 use Rattle.vd_views.specs.Views.{Coalition, IsIn}
 use Rattle.vd_views.specs.Contract.{IsExplained}
 use Rattle.vd_noninter_protocols.specs.Told.{IsDealt}
-use Rattle.vd_views.specs.Explained.{IsFree, IsCoalition, plan_of, input_words, AgreeFor}
+use Rattle.vd_views.specs.Explained.{IsOpen, IsCoalition, plan_of, input_words, AgreeFor}
 
 -- other inputs of words: each host of the coalition has the same, and so have the hosts that it knows, and the words of the
 -- declassifications to it are the same
@@ -22,10 +22,11 @@ pub record AgreeOn (p : NormalForm) (K : Coalition) (released : ℕ → ℕ → 
   pub same : (h : ℕ) → IsIn K h → SameInputs (known h) first second
   pub declassified : (h : ℕ) → IsIn K h → declassified_words p (released h) first ≡ declassified_words p (released h) second
 
--- whatever valid assignment without commitments is taken, and whatever was dealt: the second inputs are explained to the coalition
+-- whatever valid assignment is taken in which no host outside is bound to one of the coalition, and whatever was dealt: the second
+-- inputs are explained to the coalition
 abbrev pub ExplainsOthers : NormalForm → Labels → (ℕ → ℕ → ℕ → Bool) → (ℕ → ℕ → Bool) → Type 0
 ExplainsOthers p l released known =
-    (protocols : List Proto) → IsFree p l protocols → (K : Coalition) → IsCoalition p K → (first second : List (List ℕ)) (t : Tape) → IsDealt first t → AgreeOn p K released known first second
+    (protocols : List Proto) (K : Coalition) → IsOpen p l protocols K → IsCoalition p K → (first second : List (List ℕ)) (t : Tape) → IsDealt first t → AgreeOn p K released known first second
     → AgreeFor p l protocols K first second × IsExplained K (plan_of p protocols) t (input_words second)
 
 -- of each program whose labels keep the rules

@@ -12,12 +12,12 @@ ghost use Rattle.vd_views.specs.Lengths.{ExcusesAreAsLong, ShowEquallyMany};
 ghost use Rattle.vd_views.specs.ViewsProgramsExample.{WorkedExcuse, WorkedConversion};
 ghost use Rattle.vd_views.specs.AnyOrder.{SeesFrontsInAnyOrder};
 
-/// Of a program at a valid assignment of protocols without commitments, and hosts of it that look together: other inputs may agree on
-/// their own inputs, and on each word that comes to one of them in clear. Then there is one other valid deal, with the same parts
+/// Of a program at a valid assignment of protocols, and hosts of it that look together, to none of which a host outside is bound by a
+/// commitment: other inputs may agree on their own inputs, and on each word that comes to one of them in clear. Then there is one other valid deal, with the same parts
 /// for all of them and the same own words, under which they see of the other inputs what they saw of the first. Own words of hosts
 /// outside that are given to them stand where the second run gives some. It is computed gadget by gadget, along both runs.
-/// Explained back, the first deal comes again. Where own words are taken in sight of those that look, none moves. So it is where
-/// one host alone is outside, and where one of two looks.
+/// Explained back, the first deal comes again. Where own words are taken in sight of those that look, none moves. So it is,
+/// where nobody is bound, if one host alone is outside, and so if one of two looks.
 pub fn other_inputs_have_an_excuse()
     ensures explained { OthersAreExplained }
     ensures back { ExplainedBack }
@@ -51,8 +51,8 @@ pub fn any_order_looks_alike()
 
 /// Whatever hosts see together could have come from any inputs that agree, for each of them, on its own, on those of the hosts that
 /// it may read, and on the words that become readable to it by a declassification; and so where they agree on the hosts whose
-/// inputs are reached from its outputs, and on all that is declassified to it. It holds at every valid assignment without
-/// commitments.
+/// inputs are reached from its outputs, and on all that is declassified to it. It holds at every valid assignment in which no host
+/// outside is bound by a commitment to one of them.
 pub fn what_may_not_be_read_stays_open()
     ensures readable { OfEachProgram (λ p l. ExplainsOthers p l (λ h. becomes_readable_to p l (host h)) (λ h. reads_host p (host h))) }
     ensures reached { OfEachProgram (λ p l. (hosts : ℕ → ℕ → Bool) →
