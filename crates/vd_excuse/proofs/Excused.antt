@@ -26,7 +26,7 @@ use Rattle.vd_views.specs.Lengths.{IsLongEnough}
 use Rattle.vd_views.specs.Views.{alone}
 use Rattle.vd_views.specs.Explained.{IsCoalition}
 use Rattle.vd_views.specs.Sides.{OwnsInSight}
-use Rattle.vd_views.proofs.Front.{is_alone, one_of_two_looks, others_are_explained, deal_stays, own_fits, excuses_are_as_long, all_within, seen_item}
+use Rattle.vd_views.proofs.Front.{free_opens, is_alone, one_of_two_looks, others_are_explained, deal_stays, own_fits, excuses_are_as_long, all_within, seen_item}
 use Rattle.vd_machine.specs.Dealt.{dealt_count, counts_of}
 use Rattle.vd_views.specs.Files.{tape_of, AreEnough, AreAsLong, IsExcuse}
 use Rattle.vd_views.proofs.Front.{past_end, Part, file, are_two_files, IsAsLong, read_files, read_part, first_back, second_back, are_files}
@@ -121,15 +121,15 @@ module _ (p : NormalForm) (l : Labels) (protocols : List Proto) (of_two : IsOfTw
     explained =
         let dealt = is_dealt first (file 0 x ∷ file 1 w ∷ []) enough.files in
         subst (λ (u : Tape). Explains (alone h.0) (plan_of p protocols) t (input_words second) (excused (alone h.0) t (plan_of p protocols) u fresh fresh))
-        (deal_stays p l protocols of_two.free (alone h.0) together sight first second t dealt agree) (others_are_explained p l protocols of_two.free (alone h.0) together first second t dealt agree)
+        (deal_stays p l protocols (alone h.0) (free_opens p l protocols of_two.free (alone h.0)) together sight first second t dealt agree) (others_are_explained p l protocols (alone h.0) (free_opens p l protocols of_two.free (alone h.0)) together first second t dealt agree)
 
     t_long : IsLongEnough (alone h.0) (counts_of (file 0 x ∷ file 1 w ∷ [])) (plan_of p protocols) t
     t_long = record { ends = λ g s i not le. items_past first g (slice_get (file 0 x ∷ file 1 w ∷ []) g) s i not le; takes = λ g s seen. enough.takes g s (seen_item h.0 g s seen) }
 
     long : IsLongEnough (alone h.0) (counts_of (file 0 x ∷ file 1 w ∷ [])) (plan_of p protocols) y
     long =
-        excuses_are_as_long p l protocols of_two.free (alone h.0) together (input_words second) t y (is_dealt first (file 0 x ∷ file 1 w ∷ []) enough.files).deal explained (counts_of (file 0 x ∷ file 1 w ∷ []))
-        t_long (own_fits p l protocols of_two.free (alone h.0) sight (input_words second) t y explained (counts_of (file 0 x ∷ file 1 w ∷ [])) t_long)
+        excuses_are_as_long p l protocols (alone h.0) (free_opens p l protocols of_two.free (alone h.0)) together (input_words second) t y (is_dealt first (file 0 x ∷ file 1 w ∷ []) enough.files).deal explained (counts_of (file 0 x ∷ file 1 w ∷ []))
+        t_long (own_fits p l protocols of_two.free.chosen (alone h.0) sight (input_words second) t y explained (counts_of (file 0 x ∷ file 1 w ∷ [])) t_long)
 
     reaches : (g : ℕ) (s : Source) → s ≢ Inputs → (joint y (joint_of (plan_of p protocols)) fresh g).cursors s ≤ counts_of (file 0 x ∷ file 1 w ∷ []) g s
     reaches = all_within p l protocols of_two h.0 low (counts_of (file 0 x ∷ file 1 w ∷ [])) y long
