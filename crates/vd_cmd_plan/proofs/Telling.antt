@@ -4,7 +4,7 @@ use Rattle.vd_cmd_plan.specs.Lines.{host_code}
 use Rattle.vd_cmd_plan.specs.Words.{CodesAreListed, CodesTellWords, ZeroIsEnded, host_word, listed_words}
 use Rattle.vd_cmd_plan.specs.declared.status.HostStatus.{HostStatus}
 use Rattle.vd_cmd_plan.specs.declared.status.HostStatus.TheVariants as host_status
-use Rattle.vd_cmd_plan.specs.declared.status.Status.TheVariants.{Ended, Memory, Usage, ReadFault, WriteFault, TooLong, Syntax, Names, Flow, NoAssignment, Spent, InputText, DealText, ScheduleText, CertificateText, BadDeal, CertificateRefused, Host, ChildFault, NoHost, NotTwo, HasCommit, DealShort, ViewDiffers, DealUsed, ShortKey, Table}
+use Rattle.vd_cmd_plan.specs.declared.status.Status.TheVariants.{Ended, Memory, Usage, ReadFault, WriteFault, TooLong, Syntax, Names, Flow, NoAssignment, Spent, InputText, DealText, ScheduleText, CertificateText, BadDeal, CertificateRefused, Host, ChildFault, NoHost, NotTwo, HasCommit, DealShort, ViewDiffers, DealUsed, ShortKey, Table, Report}
 
 host_told : (status : HostStatus) → slice_get listed_words (host_code status) ≡ Some (host_word status)
 host_told (host_status.ProgramText offset) = refl
@@ -45,6 +45,7 @@ told (ViewDiffers place) = refl
 told (DealUsed name) = refl
 told (ShortKey name length) = refl
 told (Table name row column fault) = refl
+told (Report name fault) = refl
 told (Host status) = host_told status
 
 host_zero : (status : HostStatus) → host_code status ≡ 0 → Host status ≡ Ended
@@ -86,6 +87,7 @@ zero_is_ended (ViewDiffers place) is = absurd (cc is)
 zero_is_ended (DealUsed name) is = absurd (cc is)
 zero_is_ended (ShortKey name length) is = absurd (cc is)
 zero_is_ended (Table name row column fault) is = absurd (cc is)
+zero_is_ended (Report name fault) is = absurd (cc is)
 zero_is_ended (Host status) is = host_zero status is
 
 given : {T : Type 0} → T → Option T → T

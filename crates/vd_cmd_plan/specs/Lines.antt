@@ -23,7 +23,9 @@ use Rattle.vd_resolve.specs.declared.fault.NameFault.TheVariants as name_fault
 use Rattle.vd_cmd_plan.specs.declared.status.HostStatus.{HostStatus}
 use Rattle.vd_cmd_plan.specs.declared.status.HostStatus.TheVariants as host_status
 use Rattle.vd_cmd_plan.specs.declared.status.Status.{Status}
-use Rattle.vd_cmd_plan.specs.declared.status.Status.TheVariants.{Ended, Memory, Usage, ReadFault, WriteFault, TooLong, Syntax, Names, Flow, NoAssignment, Spent, InputText, DealText, ScheduleText, CertificateText, BadDeal, CertificateRefused, Host, ChildFault, NoHost, NotTwo, HasCommit, DealShort, ViewDiffers, DealUsed, ShortKey, Table}
+use Rattle.vd_cmd_plan.specs.declared.status.Status.TheVariants.{Ended, Memory, Usage, ReadFault, WriteFault, TooLong, Syntax, Names, Flow, NoAssignment, Spent, InputText, DealText, ScheduleText, CertificateText, BadDeal, CertificateRefused, Host, ChildFault, NoHost, NotTwo, HasCommit, DealShort, ViewDiffers, DealUsed, ShortKey, Table, Report}
+use Rattle.vd_cmd_plan.specs.declared.status.ReportFault.{ReportFault}
+use Rattle.vd_cmd_plan.specs.declared.status.ReportFault.TheVariants as report_fault
 use Rattle.vd_cmd_plan.specs.declared.status.TableFault.{TableFault}
 use Rattle.vd_cmd_plan.specs.declared.status.TableFault.TheVariants as table_fault
 
@@ -67,6 +69,7 @@ code_of (ViewDiffers place) = 32
 code_of (DealUsed name) = 33
 code_of (ShortKey name length) = 34
 code_of (Table name row column fault) = 35
+code_of (Report name fault) = 36
 
 -- a text that ends in a number
 abbrev pub offset_line : List ℕ → ℕ → List ℕ
@@ -208,6 +211,15 @@ abbrev pub table_line : (name : List ℕ) → (row column : ℕ) → TableFault 
 table_line name row column fault =
     codes "viaduct: table " ++ (shown name ++ (codes ":" ++ (decimal row ++ (codes ":" ++ (decimal column ++ (codes " " ++ (table_word fault ++ codes "\n")))))))
 
+-- why a file does not tell what a host printed
+abbrev pub report_word : ReportFault → List ℕ
+report_word report_fault.Text = codes "text"
+report_word report_fault.Cut = codes "cut"
+report_word report_fault.Words = codes "words"
+
+abbrev pub report_line : (name : List ℕ) → ReportFault → List ℕ
+report_line name fault = codes "viaduct: report " ++ (shown name ++ (codes " " ++ (report_word fault ++ codes "\n")))
+
 -- Ended has no line.
 abbrev pub status_line : Status → List ℕ
 status_line Ended = []
@@ -237,6 +249,7 @@ status_line (ViewDiffers place) = offset_line (codes "viaduct: view differs at "
 status_line (DealUsed name) = name_line (codes "viaduct: deal used ") name
 status_line (ShortKey name length) = sized_line (codes "viaduct: short key ") name length
 status_line (Table name row column fault) = table_line name row column fault
+status_line (Report name fault) = report_line name fault
 
 -- the line goes to err, whole unless err failed
 pub record Says (line : List ℕ) (before now : SinkView) : Type 0 where

@@ -4,7 +4,7 @@ use Rattle.vd_cmd_plan.specs.Lines.{code_of}
 use Rattle.vd_cmd_plan.specs.declared.status.HostStatus.{HostStatus}
 use Rattle.vd_cmd_plan.specs.declared.status.HostStatus.TheVariants as host_status
 use Rattle.vd_cmd_plan.specs.declared.status.Status.{Status}
-use Rattle.vd_cmd_plan.specs.declared.status.Status.TheVariants.{Ended, Memory, Usage, ReadFault, WriteFault, TooLong, Syntax, Names, Flow, NoAssignment, Spent, InputText, DealText, ScheduleText, CertificateText, BadDeal, CertificateRefused, Host, ChildFault, NoHost, NotTwo, HasCommit, DealShort, ViewDiffers, DealUsed, ShortKey, Table}
+use Rattle.vd_cmd_plan.specs.declared.status.Status.TheVariants.{Ended, Memory, Usage, ReadFault, WriteFault, TooLong, Syntax, Names, Flow, NoAssignment, Spent, InputText, DealText, ScheduleText, CertificateText, BadDeal, CertificateRefused, Host, ChildFault, NoHost, NotTwo, HasCommit, DealShort, ViewDiffers, DealUsed, ShortKey, Table, Report}
 
 -- Whether a host's program is no text or breaks a range is one word.
 abbrev pub host_word : HostStatus → List ℕ
@@ -47,6 +47,7 @@ word_of (ViewDiffers place) = codes "view differs"
 word_of (DealUsed name) = codes "deal used"
 word_of (ShortKey name length) = codes "short key"
 word_of (Table name row column fault) = codes "table"
+word_of (Report name fault) = codes "report"
 
 -- The process ends with 0 where the command was carried out, and only there.
 abbrev pub ZeroIsEnded : Type 0
@@ -64,7 +65,7 @@ listed_words =
     ∷ codes "host program" ∷ codes "certificate text" ∷ codes "bad deal" ∷ codes "certificate refused" ∷ codes "peer fault" ∷ codes "bad frame"
     ∷ codes "unequal" ∷ codes "wrong program" ∷ codes "wrong host" ∷ codes "short input" ∷ codes "short deal" ∷ codes "link ended"
     ∷ codes "child fault" ∷ codes "no host" ∷ codes "not two" ∷ codes "commitment" ∷ codes "" ∷ codes "deal short" ∷ codes "view differs"
-    ∷ codes "deal used" ∷ codes "short key" ∷ codes "table" ∷ []
+    ∷ codes "deal used" ∷ codes "short key" ∷ codes "table" ∷ codes "report" ∷ []
 
 -- A status ends with the number of its word in this list.
 abbrev pub CodesAreListed : Type 0

@@ -26,4 +26,4 @@ pub use loading::load;
 pub use numbered::file_name;
 pub use refusals::{check_status, input_status, rule_status, schedule_status};
 pub use shown::{names_are_shown_plain, shown_byte};
-pub use status::{FlowFault, HostStatus, Status, TableFault};
+pub use status::{FlowFault, HostStatus, ReportFault, Status, TableFault};

@@ -5,12 +5,12 @@ ghost use Rattle.std.specs.List.{flat_map};
 ghost use Rattle.vd_report.specs.ChoiceLines.{host_name};
 ghost use Rattle.vd_outside.specs.Sink.{WritesAll};
 ghost use Rattle.vd_cmd_plan.specs.Lines as told;
-ghost use Rattle.vd_cmd_plan.specs.Lines.{Says, bad_deal_line, bound_line, certificate_line, child_line, children_line, cost_line, deal_line, flow_line, kind_name, limit_line, memory_line, name_line, schedule_line, sized_line, syntax_line, rule_line, input_line, offset_line, quantity_name, table_line, table_word};
+ghost use Rattle.vd_cmd_plan.specs.Lines.{Says, bad_deal_line, bound_line, certificate_line, child_line, children_line, cost_line, deal_line, flow_line, kind_name, limit_line, memory_line, name_line, schedule_line, sized_line, syntax_line, rule_line, input_line, offset_line, quantity_name, report_line, report_word, table_line, table_word};
 
 use crate::deliver::write_parts;
 use crate::host_lines::write_host_status;
 use crate::shown::write_named;
-use crate::{Status, TableFault};
+use crate::{ReportFault, Status, TableFault};
 use itoa::Buffer;
 use std::alloc::Global;
 use vd_base::{Failed, HostId, Names};
@@ -90,6 +90,7 @@ fn write_status<E: Sink>(err: &mut E, status: &Status) -> Result<(), Failed>
         Status::Table(name, row, column, fault) => {
             write_table(err, name.as_str().as_bytes(), *row, *column, *fault)
         }
+        Status::Report(name, fault) => write_report(err, name.as_str().as_bytes(), *fault),
     }
 }
 
@@ -130,6 +131,29 @@ fn write_table<E: Sink>(
         b"viaduct: table ",
         name,
         &[b":", row, b":", column, b" ", table_word(fault), b"\n"],
+    )
+}
+
+/// Why a file does not tell what a host printed.
+fn report_word(fault: ReportFault) -> &'static [u8]
+    ensures { result.now ≡ report_word fault }
+{
+    match fault {
+        ReportFault::Text => b"text",
+        ReportFault::Cut => b"cut",
+        ReportFault::Words => b"words",
+    }
+}
+
+/// Writes the line of a file that does not tell what a host printed.
+fn write_report<E: Sink>(err: &mut E, name: &[u8], fault: ReportFault) -> Result<(), Failed>
+    ensures { WritesAll (report_line name.now fault) (E.view err.old) (E.view err.new) result }
+{
+    write_named(
+        err,
+        b"viaduct: report ",
+        name,
+        &[b" ", report_word(fault), b"\n"],
     )
 }
 

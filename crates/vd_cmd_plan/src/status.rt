@@ -103,6 +103,17 @@ pub enum TableFault {
     Many,
 }
 
+/// Why a file does not tell what a host printed.
+#[derive(Clone, Copy, Debug)]
+pub enum ReportFault {
+    /// It has not the words of what a host prints, or of a line of a replay.
+    Text,
+    /// It ends before all has come, or the host had not ended.
+    Cut,
+    /// No run of the source tells the host so many words.
+    Words,
+}
+
 /// How a run ended. A fault of a text is carried as the pass that found it gave it; where that wanted memory, or the text was too
 /// long for it, the status is `Memory` or `TooLong`. A search that found no assignment gives back the program that it was made for,
 /// with its least labels.
@@ -162,6 +173,8 @@ pub enum Status {
     ShortKey(Text, u32),
     /// The table in this file gives no words: in this row and this column, both counted from 1 on, of which the header is the first row.
     Table(Text, usize, usize, TableFault),
+    /// This file does not tell what a host printed.
+    Report(Text, ReportFault),
 }
 
 impl Status {
@@ -197,6 +210,7 @@ impl Status {
             Status::DealUsed(_) => 33,
             Status::ShortKey(_, _) => 34,
             Status::Table(_, _, _, _) => 35,
+            Status::Report(_, _) => 36,
         }
     }
 }

@@ -1,7 +1,7 @@
 -- Reasons are told to whom asked for them.
 use Rattle.std.proofs.Common.{◌≡◌, ◌≢◌, Bool, true, refl, ap, ◌∙◌}
 use Rattle.vd_cmd_plan.specs.declared.status.Status.{Status}
-use Rattle.vd_cmd_plan.specs.declared.status.Status.TheVariants.{Ended, Memory, Usage, ReadFault, WriteFault, TooLong, Syntax, Names, Flow, NoAssignment, Spent, InputText, DealText, ScheduleText, CertificateText, BadDeal, CertificateRefused, Host, ChildFault, NoHost, NotTwo, HasCommit, DealShort, ViewDiffers, DealUsed, ShortKey, Table}
+use Rattle.vd_cmd_plan.specs.declared.status.Status.TheVariants.{Ended, Memory, Usage, ReadFault, WriteFault, TooLong, Syntax, Names, Flow, NoAssignment, Spent, InputText, DealText, ScheduleText, CertificateText, BadDeal, CertificateRefused, Host, ChildFault, NoHost, NotTwo, HasCommit, DealShort, ViewDiffers, DealUsed, ShortKey, Table, Report}
 use Rattle.viaduct.specs.declared.caller.Caller.{Caller}
 use Rattle.viaduct.specs.Telling.{ReasonsAreAsked, fault_telling, success_telling, telling_of}
 
@@ -33,6 +33,7 @@ fault_told caller (ViewDiffers place) is = refl
 fault_told caller (DealUsed name) is = refl
 fault_told caller (ShortKey name length) is = refl
 fault_told caller (Table name row column fault) is = refl
+fault_told caller (Report name fault) is = refl
 
 pub reasons_asked : ReasonsAreAsked
 reasons_asked = record {

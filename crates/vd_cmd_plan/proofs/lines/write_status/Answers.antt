@@ -47,3 +47,6 @@ returns-in-ViewDiffers g c = rw c.in-ViewDiffers.is c.write_place-in-ViewDiffers
 
 pub returns-in-Table : goal.returns-in-Table
 returns-in-Table g c = rw (c.in-Table.is, ← c.as_str-in-Table.ensures, ← c.as_bytes-in-Table.ensures.value) c.write_table.ensures
+
+pub returns-in-Report : goal.returns-in-Report
+returns-in-Report g c = rw (c.in-Report.is, ← c.as_str-in-Report.ensures, ← c.as_bytes-in-Report.ensures.value) c.write_report.ensures
