@@ -14,7 +14,7 @@ use Rattle.vd_cmd.specs.declared.command.NeedsKind.{NeedsKind}
 use Rattle.vd_cmd.specs.declared.command.NeedsKind.TheVariants as needs_kind
 use Rattle.vd_cmd.specs.declared.command.KeySource.TheVariants.{Drawn, InFile}
 use Rattle.vd_cmd.specs.declared.command.FilesCommand.{FilesCommand}
-use Rattle.vd_cmd.specs.declared.command.FilesCommand.TheVariants.{Clear, Labels, Choose, Draw, Reveals, Certify, Compile, Needs, Deal, Replay, Excuse, Depends, Influences, Column, Gen, Trial}
+use Rattle.vd_cmd.specs.declared.command.FilesCommand.TheVariants.{Clear, Labels, Choose, Draw, Reveals, Certify, Compile, Needs, Deal, Replay, Excuse, Depends, Influences, Column, Report, Gen, Trial}
 use Rattle.vd_cmd.specs.declared.command.CommandFault.{CommandFault}
 use Rattle.vd_cmd.specs.declared.command.CommandFault.TheVariants.{Usage}
 
@@ -174,10 +174,13 @@ fixed_form_of (word ∷ first ∷ second ∷ third ∷ []) =
     else if bytes_eq word (codes "check") then Some (Check (record { program = first; inputs = second; deal = third }))
     else if bytes_eq word (codes "needs") && bytes_eq second (codes "each") then needs_of first needs_kind.Each (number_within 1 most_search_budget third)
     else if bytes_eq word (codes "reveals") then reveals_of first (Some second) (number_within 1 most_search_budget third)
+    else if bytes_eq word (codes "report") then Some (OnFiles (Report (record { source = first; host = second; file = third; json = false })))
     else None
 fixed_form_of (word ∷ source ∷ inputs ∷ prefix ∷ schedule ∷ []) =
     if bytes_eq word (codes "replay") then replay_of source inputs prefix schedule false (Some most_search_budget)
     else if bytes_eq word (codes "compile") && bytes_eq prefix (codes "early") then early_of source inputs (number_within 1 most_search_budget schedule)
+    else if bytes_eq word (codes "report") && bytes_eq schedule (codes "json")
+    then Some (OnFiles (Report (record { source = source; host = inputs; file = prefix; json = true })))
     else None
 fixed_form_of (word ∷ source ∷ inputs ∷ prefix ∷ schedule ∷ other ∷ []) =
     if bytes_eq word (codes "replay") then replay_with source inputs prefix schedule other

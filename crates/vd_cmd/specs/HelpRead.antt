@@ -9,7 +9,7 @@ use Rattle.vd_cmd.specs.declared.command.Command.TheVariants.{OnFiles, Early, Ho
 use Rattle.vd_cmd.specs.Numbers.{number_within}
 use Rattle.vd_cmd.specs.declared.command.FilesCommand.{FilesCommand}
 use Rattle.vd_cmd.specs.declared.command.NeedsKind.TheVariants as needs_kind
-use Rattle.vd_cmd.specs.declared.command.FilesCommand.TheVariants.{Clear, Labels, Choose, Draw, Reveals, Certify, Compile, Needs, Replay, Excuse, Depends, Influences, Column}
+use Rattle.vd_cmd.specs.declared.command.FilesCommand.TheVariants.{Clear, Labels, Choose, Draw, Reveals, Certify, Compile, Needs, Replay, Excuse, Depends, Influences, Column, Report}
 
 -- the words are read as this command over files
 abbrev pub AreRead : List (List ℕ) → FilesCommand → Type 0
@@ -46,6 +46,10 @@ pub record HelpIsRead : Type 0 where
   pub influences : (source host : List ℕ) → AreRead (codes "influences" ∷ source ∷ host ∷ []) (Influences source host)
   pub column : (host file first : List ℕ) (columns : List (List ℕ)) → IsTrue (is_name host)
       → AreRead (codes "column" ∷ host ∷ file ∷ first ∷ columns) (Column (record { host = host; file = file; columns = first ∷ columns }))
+  pub report : (source host file : List ℕ) → AreRead (codes "report" ∷ source ∷ host ∷ file ∷ [])
+      (Report (record { source = source; host = host; file = file; json = false }))
+  pub report_json : (source host file : List ℕ) → AreRead (codes "report" ∷ source ∷ host ∷ file ∷ codes "json" ∷ [])
+      (Report (record { source = source; host = host; file = file; json = true }))
   pub excuse : (source inputs second prefix host out : List ℕ)
       → AreRead (codes "excuse" ∷ source ∷ inputs ∷ second ∷ prefix ∷ host ∷ out ∷ [])
       (Excuse (record { source = source; inputs = inputs; second = second; prefix = prefix; host = host; out = out; budget = most_search_budget }))

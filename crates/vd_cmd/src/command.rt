@@ -139,6 +139,18 @@ pub struct ColumnWords {
     pub columns: Texts,
 }
 
+/// The words of `report SOURCE HOST FILE [json]`.
+#[derive(Drop)]
+pub struct ReportWords {
+    pub source: Text,
+    /// The name of the host that has printed.
+    pub host: Text,
+    /// What it has printed, or the report of a replay.
+    pub file: Text,
+    /// Whether one JSON object is printed, and else a line for each word.
+    pub json: bool,
+}
+
 /// A command that uses files and the output alone: it reads files, and its answer is what it stores and prints.
 #[derive(Drop)]
 pub enum FilesCommand {
@@ -170,6 +182,8 @@ pub enum FilesCommand {
     Influences(Text, Text),
     /// `column HOST FILE NAME[*FACTOR] ..`.
     Column(ColumnWords),
+    /// `report SOURCE HOST FILE [json]`.
+    Report(ReportWords),
     /// `gen N`.
     Gen(u32),
     /// `trial N`.

@@ -4,13 +4,14 @@ ghost use Rattle.std.specs.Prelude.{◌≡◌, None, Some, IfOk, IfSome, IsTrue}
 ghost use Rattle.vd_base.specs.Lexical.{is_name};
 ghost use Rattle.vd_cmd.specs.Commands.{Reads, AreWithin, IsBudget, IsPort, IsSize, choose_of, compile_of, deal_of, depends_of, draw_of, early_of, excuse_of, gen_of, key_deal_of, needs_of, replay_of, reveals_of, run_of, trial_of};
 ghost use Rattle.vd_cmd.specs.declared.command.Command.TheVariants.{Check, OnFiles};
-ghost use Rattle.vd_cmd.specs.declared.command.FilesCommand.TheVariants.{Clear, Certify, Column, Influences};
+ghost use Rattle.vd_cmd.specs.declared.command.FilesCommand.TheVariants.{Clear, Certify, Column, Influences, Report};
 ghost use Rattle.vd_cmd.specs.Groups.{group_of};
 ghost use Rattle.vd_cmd.specs.declared.command.KeySource.TheVariants.{Drawn, InFile};
 
 use crate::command::{
     CheckWords, ColumnWords, Command, CommandFault, EarlyWords, ExcuseWords, FilesCommand,
-    KeyDealWords, KeySource, NeedsKind, NeedsWords, ReplayWords, RevealsWords, RunWords,
+    KeyDealWords, KeySource, NeedsKind, NeedsWords, ReplayWords, ReportWords, RevealsWords,
+    RunWords,
 };
 use crate::groups::{are_new, between_commas};
 use std::alloc::{AllocError, Global};
@@ -490,5 +491,25 @@ pub(crate) fn column_of(
         host,
         file,
         columns,
+    })))
+}
+
+/// The command `report`.
+pub(crate) fn report_of(
+    alloc: Global,
+    source: &Text,
+    host: &Text,
+    file: &Text,
+    json: bool,
+) -> Result<Command, CommandFault>
+    ensures { Reads (Some (OnFiles (Report (record { source = source.now; host = host.now; file = file.now; json = json })))) result }
+{
+    let (source, host) = both(alloc, source, host)?;
+    let file = Text::copy_of(alloc, file.as_str())?;
+    Ok(Command::OnFiles(FilesCommand::Report(ReportWords {
+        source,
+        host,
+        file,
+        json,
     })))
 }

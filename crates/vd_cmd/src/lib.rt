@@ -11,7 +11,8 @@ mod reading;
 
 pub use command::{
     CheckWords, ColumnWords, Command, CommandFault, EarlyWords, ExcuseWords, FilesCommand,
-    HostWords, KeyDealWords, KeySource, NeedsKind, NeedsWords, ReplayWords, RevealsWords, RunWords,
+    HostWords, KeyDealWords, KeySource, NeedsKind, NeedsWords, ReplayWords, ReportWords,
+    RevealsWords, RunWords,
 };
 pub use help_words::help_is_read;
 pub use own::own_text;

@@ -2,7 +2,7 @@
 
 ghost use Rattle.std.specs.Prelude.{◌≡◌};
 ghost use Rattle.std.specs.Option.{option_map};
-ghost use Rattle.vd_cmd.specs.Own.{help_of, help_of_certify, help_of_check, help_of_choose, help_of_clear, help_of_column, help_of_compile, help_of_deal, help_of_depends, help_of_draw, help_of_excuse, help_of_gen, help_of_host, help_of_host_within, help_of_influences, help_of_labels, help_of_needs, help_of_replay, help_of_reveals, help_of_rounds, help_of_run, help_of_trial, help_text, help_to_run, help_to_trust, help_to_try, is_either, own_text_of, version_text};
+ghost use Rattle.vd_cmd.specs.Own.{help_of, help_of_certify, help_of_check, help_of_choose, help_of_clear, help_of_column, help_of_compile, help_of_deal, help_of_depends, help_of_draw, help_of_excuse, help_of_gen, help_of_host, help_of_host_within, help_of_influences, help_of_labels, help_of_needs, help_of_replay, help_of_report, help_of_reveals, help_of_rounds, help_of_run, help_of_trial, help_text, help_to_run, help_to_trust, help_to_try, is_either, own_text_of, version_text};
 
 use vd_base::Texts;
 
@@ -58,6 +58,9 @@ To run it:
                                 else neither encrypted nor authenticated: put them into a tunnel
   viaduct host-within SECONDS PROGRAM INPUTS DEAL ADDR..
                                 run a host as host does, with no wait for another one longer than SECONDS, 1 to 604800
+  viaduct report SOURCE HOST FILE [json]
+                                print the words of HOST with their names, one a line, or with json as one JSON object;
+                                FILE has what host printed there, or the report of replay or run
 
 To trust it:
   viaduct certify SOURCE CERT   print what the certificate CERT shows: the least cost, or that there is none
@@ -132,6 +135,7 @@ statuses:
   33  DEAL was used before
   34  the file of a key has fewer than 32 bytes
   35  the table in FILE does not give words
+  36  FILE does not tell what HOST printed
 ";
 
 /// The text of `--version`.
@@ -226,6 +230,16 @@ fn help_of_rounds() -> &'static str
   print what a run of the source FILE costs, before anything is dealt: how many packets, words
   and bytes go from each host to each other one; where FILE is the program of a host,
   what goes out from that host
+"
+}
+
+#[tactic(auto, unfolding(crate::specs::Own::help_of_report))]
+fn help_of_report() -> &'static str
+    ensures { result.now ≡ help_of_report }
+{
+    "viaduct report SOURCE HOST FILE [json]
+  print the words of HOST with their names, one a line, or with json as one JSON object;
+  FILE has what host printed there, or the report of replay or run
 "
 }
 
@@ -432,6 +446,8 @@ fn help_to_run(word: &str) -> Option<&'static str>
         Some(help_of_host())
     } else if word == "host-within" {
         Some(help_of_host_within())
+    } else if word == "report" {
+        Some(help_of_report())
     } else {
         help_to_trust(word)
     }

@@ -8,7 +8,8 @@ use crate::command::{Command, CommandFault, FilesCommand, HostWords, NeedsKind};
 use crate::forms::{
     certify_of, check_of, choose_of, clear_of, column_of, compile_of, copies, deal_drawn,
     deal_from_file, deal_of, depends_of, draw_of, early_of, excuse_of, gen_of, influences_of,
-    needs_of, replay_of, reveals_all, reveals_one, run_of, trial_of,
+    influences_of, needs_of, needs_of, replay_of, replay_of, report_of, reveals_all, reveals_all,
+    reveals_one, reveals_one, run_of, run_of, trial_of, trial_of,
 };
 use crate::numbers::number_within;
 use std::alloc::Global;
@@ -204,6 +205,8 @@ fn four_words(
     } else if word.as_str() == "reveals" {
         let budget = number_within(1, u64::from(SEARCH_BUDGET), third);
         reveals_one(alloc, first, second, budget)
+    } else if word.as_str() == "report" {
+        report_of(alloc, first, second, third, false)
     } else {
         Err(CommandFault::Usage)
     }
@@ -310,6 +313,8 @@ fn five_words(
         replay_of(alloc, source, inputs, prefix, schedule, false, Some(most))
     } else if word.as_str() == "compile" && prefix.as_str() == "early" {
         early_of(alloc, source, inputs, number_within(1, most, schedule))
+    } else if word.as_str() == "report" && schedule.as_str() == "json" {
+        report_of(alloc, source, inputs, prefix, true)
     } else {
         Err(CommandFault::Usage)
     }
