@@ -1,6 +1,6 @@
 -- The lemmas that other crates cite.
 pub use Rattle.vd_cmd_laws.proofs.Plans.{answered, check_came, ends_as, file_came}
-pub use Rattle.vd_cmd_laws.proofs.Sources.{made_of}
+pub use Rattle.vd_cmd_laws.proofs.Sources.{made_of, read_came}
 pub use Rattle.vd_cmd_laws.proofs.Labels.{labels_tell}
 pub use Rattle.vd_cmd_laws.proofs.Proofs.{proofs_tell}
 pub use Rattle.vd_cmd_laws.proofs.Choices.{choices_tell, source_choice_came}
