@@ -3,6 +3,7 @@ use Rattle.std.specs.Prelude.{ℕ, List, ◌++◌, codes}
 use Rattle.std.specs.List.{flat_map}
 use Rattle.vd_draw_layout.specs.declared.draw_svg.marks.Mark.{Mark}
 use Rattle.vd_draw_layout.specs.Tags.{attribute, mark_text}
+use Rattle.vd_draw_layout.specs.Words.{number_text}
 
 -- how classes look, and the drawings of shapes and of the heads of arrows
 unfoldable pub look_text : List ℕ
@@ -16,8 +17,12 @@ legend_text = codes "<text class=\"plain\" x=\"112\" y=\"0\">not drawn: the mask
 unfoldable pub begin_text : List ℕ
 begin_text = codes "<svg xmlns=\"http://www.w3.org/2000/svg\" xmlns:xlink=\"http://www.w3.org/1999/xlink\" version=\"1.1\""
 
+-- all of it is shown, so it can be scaled
+abbrev pub view_text : ℕ → ℕ → List ℕ
+view_text width height = codes " viewBox=\"0 0 " ++ number_text width ++ codes " " ++ number_text height ++ codes "\""
+
 abbrev pub head_text : ℕ → ℕ → List ℕ
-head_text width height = begin_text ++ attribute (codes " width") width ++ attribute (codes " height") height ++ codes ">\n" ++ look_text
+head_text width height = begin_text ++ attribute (codes " width") width ++ attribute (codes " height") height ++ view_text width height ++ codes ">\n" ++ look_text
 
 -- the legend stands in the group that the last of the marks begins
 abbrev pub document_text : ℕ → ℕ → List Mark → List ℕ

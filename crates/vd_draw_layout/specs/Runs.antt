@@ -1,10 +1,11 @@
--- The rows of the drawing: bindings without arrows that follow each other on one lane are drawn as one row.
-use Rattle.std.specs.Prelude.{ℕ, zero, suc, nat_eq, Bool, true, false, ◌&&◌, ◌==◌, if◌then◌else◌, Option, Some, List, [], ◌∷◌, ◌++◌, codes}
+-- The rows of the drawing: bindings without arrows that follow each other on one lane are drawn as one row, but for inputs and turns.
+use Rattle.std.specs.Prelude.{ℕ, zero, suc, nat_eq, Bool, true, false, ◌&&◌, ◌==◌, not, if◌then◌else◌, Option, Some, None, List, [], ◌∷◌, ◌++◌, codes}
 use Rattle.std.specs.List.{count_by}
 use Rattle.vd_base.specs.declared.protocols.Proto.{Proto}
 use Rattle.vd_base.specs.Holders.{same_protocol}
 use Rattle.vd_draw_rows.specs.declared.row.Kind.{Kind}
 use Rattle.vd_draw_rows.specs.declared.row.Kind.TheVariants as kind
+use Rattle.vd_draw_rows.specs.declared.row.Line.{Line}
 use Rattle.vd_draw_rows.specs.declared.row.Move.{Move}
 use Rattle.vd_draw_rows.specs.declared.row.Row.{Row}
 use Rattle.vd_draw_rows.specs.Moves.{is_seen}
@@ -25,7 +26,7 @@ is_binding kind.Binding = true
 is_binding other = false
 
 abbrev pub is_quiet : Row → Bool
-is_quiet row = is_binding row.kind && arrows_of row == 0
+is_quiet row = is_binding row.kind && arrows_of row == 0 && not row.alone
 
 abbrev pub same_at : Option Proto → Option Proto → Bool
 same_at (Some p) (Some q) = same_protocol p q
@@ -48,13 +49,18 @@ said_before (suc n) = codes "+" ++ number_text (suc n) ++ codes ": "
 abbrev pub drawn_text : ℕ → Row → List ℕ
 drawn_text before row = said_before before ++ row.text
 
+-- what the heading says of a row: the line of the source that says it, or else its text
+abbrev pub heading_text : ℕ → Row → Option Line → List ℕ
+heading_text before row None = drawn_text before row
+heading_text before row (Some line) = number_text line.number ++ codes ": " ++ line.text
+
 -- below so many rows of the drawing, where so many rows wait that cost so much
 abbrev pub drawn_from : ℕ → ℕ → ℕ → List Row → List Drawn
 drawn_from number before cost [] = []
 drawn_from number before cost (row ∷ rest) =
     let all = plus cost (cost_of row) in
     if goes_on row rest then drawn_from number (plus before 1) all rest
-    else record { number = number; cost = all; text = drawn_text before row } ∷ drawn_from (plus number 1) 0 0 rest
+    else record { number = number; cost = all; said = heading_text before row row.line } ∷ drawn_from (plus number 1) 0 0 rest
 
 abbrev pub drawn_rows : List Row → List Drawn
 drawn_rows rows = drawn_from 0 0 0 rows

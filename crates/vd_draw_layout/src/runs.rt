@@ -1,4 +1,4 @@
-//! The rows of the drawing: bindings without arrows that follow each other on one lane are drawn as one row.
+//! The rows of the drawing: bindings without arrows that follow each other on one lane are drawn as one row, but for inputs and turns.
 
 ghost use Rattle.std.specs.Prelude.{◌≡◌, IfOk};
 ghost use Rattle.vd_draw_layout.specs.Runs as runs;
@@ -16,8 +16,8 @@ pub struct Drawn {
     pub number: u64,
     /// What it costs, with those that are drawn with it.
     pub cost: u64,
-    /// Its text, with how many rows are drawn with it.
-    pub text: Bytes,
+    /// What the heading says of it.
+    pub said: Bytes,
 }
 
 /// How many moves are drawn.
@@ -40,11 +40,11 @@ fn is_binding(kind: Kind) -> bool
     matches!(kind, Kind::Binding)
 }
 
-/// Whether a row is a binding without arrows.
+/// Whether a row is a binding without arrows that need not be drawn alone.
 fn is_quiet(row: &Row) -> bool
     ensures { result ≡ runs.is_quiet row.now }
 {
-    is_binding(row.kind) && arrows_of(row) == 0
+    is_binding(row.kind) && arrows_of(row) == 0 && !row.alone
 }
 
 /// Whether two rows are at the same protocol.
@@ -97,6 +97,20 @@ fn said_before(alloc: Global, before: u64) -> Result<Bytes, AllocError>
     Ok(text)
 }
 
+/// What the heading says of a row: the line of the source that says it, with its number, or else its text.
+fn heading_text(alloc: Global, before: u64, row: &Row) -> Result<Bytes, AllocError>
+    ensures { IfOk result (λ text. text ≡ runs.heading_text before row.now row.now.line) }
+{
+    let Some(line) = &row.line else {
+        return drawn_text(alloc, before, row);
+    };
+    let mut text = Bytes::new(alloc);
+    push_number(&mut text, line.number as u64)?;
+    text.extend_from_slice(b": ")?;
+    text.extend_from_slice(line.text.as_slice())?;
+    Ok(text)
+}
+
 /// The rows of the drawing, from above.
 pub(crate) fn drawn_rows(alloc: Global, rows: &[Row]) -> Result<Items<Drawn>, AllocError>
     ensures { IfOk result (λ drawn. drawn ≡ runs.drawn_rows rows.now) }
@@ -111,8 +125,8 @@ pub(crate) fn drawn_rows(alloc: Global, rows: &[Row]) -> Result<Items<Drawn>, Al
         if goes_on(row, &rows[place + 1..]) {
             before = before.saturating_add(1);
         } else {
-            let text = drawn_text(alloc, before, row)?;
-            drawn.push(Drawn { number, cost, text })?;
+            let said = heading_text(alloc, before, row)?;
+            drawn.push(Drawn { number, cost, said })?;
             number = number.saturating_add(1);
             before = 0;
             cost = 0;

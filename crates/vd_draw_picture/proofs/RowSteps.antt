@@ -23,12 +23,12 @@ pub a_row_more : (g : Layout) (hosts : List (List ℕ)) (slots : List Slot) (lab
     → with ≡ with_row g hosts slots labels run row
     → now ≡ marks ++ step_marks g hosts slots labels y number last with row rest
     → run' ≡ next_run g hosts slots labels with row rest
-    → y' ≡ plus y (whole_height number last row rest) → number' ≡ next_number number row rest → last' ≡ next_last last row rest
+    → y' ≡ plus y (whole_height 0 number last row rest) → number' ≡ next_number number row rest → last' ≡ next_last last row rest
     → now ++ rows_marks g hosts slots labels y' number' last' run' (drop (place + 1) rows) ≡ all
 a_row_more g hosts slots labels all marks now y y' number number' last last' run with run' rows rest place row low is is_rest before is_with pushed is_run is_y is_number is_last =
     let marks_of : List Row → List Mark = rows_marks g hosts slots labels y number last run in
     let behind : Run → List Row → List Mark = λ r more.
-    rows_marks g hosts slots labels (plus y (whole_height number last row more)) (next_number number row more) (next_last last row more) (next_run g hosts slots labels r row more) more in
+    rows_marks g hosts slots labels (plus y (whole_height 0 number last row more)) (next_number number row more) (next_last last row more) (next_run g hosts slots labels r row more) more in
     let step : Run → List Row → List Mark = λ r more. step_marks g hosts slots labels y number last r row more in
     (λ i. pushed i ++ rows_marks g hosts slots labels (is_y i) (is_number i) (is_last i) (is_run i) (sym is_rest i))
     ∙ append_assoc marks (step with rest) (behind with rest)

@@ -89,5 +89,5 @@ module _ (g : Layout) (hosts : List (List ℕ)) (slots : List Slot) (labels : Li
   rows_marks y number last run [] = []
   rows_marks y number last run (row ∷ rest) =
       step_marks y number last (with_row run row) row rest
-      ++ rows_marks (plus y (whole_height number last row rest)) (next_number number row rest) (next_last last row rest)
+      ++ rows_marks (plus y (whole_height 0 number last row rest)) (next_number number row rest) (next_last last row rest)
       (next_run (with_row run row) row rest) rest

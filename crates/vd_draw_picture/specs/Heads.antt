@@ -56,13 +56,13 @@ lane_mark bottom lane = mark.Line (lane_stroke lane.at) (at lane.x 74) (at lane.
 
 -- ---- the heading, and the heads of the columns
 
--- of a row with this place among the dearest: `(1) min(a, b) 41 %`
+-- of a row with this place among the dearest: `(1) 12: min(a, b) 41 %`
 abbrev pub before_place : ℕ → List ℕ
 before_place place = if nat_lt place 2 then codes "; dearest: (" else codes ", ("
 
 abbrev pub dear_said : ℕ → ℕ → Drawn → List ℕ
 dear_said total place row =
-    before_place place ++ number_text place ++ codes ") " ++ cut 20 row.text ++ codes " "
+    before_place place ++ number_text place ++ codes ") " ++ cut 28 row.said ++ codes " "
     ++ number_text (times row.cost 100 / max total 1) ++ codes " %"
 
 unfoldable pub said_if_dear : Layout → ℕ → Drawn → List ℕ

@@ -65,16 +65,26 @@ next_number number row rest = if goes_on row rest then number else plus number 1
 abbrev pub height_above : ℕ → ℕ → Row → ℕ
 height_above number last row = plus (names_height number) (line_height last row)
 
--- how high a row is, with what stands above it
-abbrev pub whole_height : ℕ → ℕ → Row → List Row → ℕ
-whole_height number last row rest = if goes_on row rest then 0 else plus (height_above number last row) (height_of row)
+-- how deep the row behind a row stands
+abbrev pub depth_behind : List Row → ℕ
+depth_behind [] = 1
+depth_behind (row ∷ rest) = row.depth
+
+-- six points for each block that ends below a row, of those in a block that begins at this depth
+abbrev pub room_below : ℕ → Row → List Row → ℕ
+room_below depth row rest = times (row.depth - max (depth_behind rest) depth) 6
+
+-- how high a row is, with what stands above it and the ends of blocks below it
+abbrev pub whole_height : ℕ → ℕ → ℕ → Row → List Row → ℕ
+whole_height depth number last row rest =
+    if goes_on row rest then 0 else plus (plus (height_above number last row) (height_of row)) (room_below depth row rest)
 
 -- how high the rows are that follow, as long as they stand deeper
 abbrev pub height_from : ℕ → ℕ → ℕ → ℕ → List Row → ℕ
 height_from depth height number last [] = height
 height_from depth height number last (row ∷ rest) =
     if nat_lt depth row.depth
-    then height_from depth (plus height (whole_height number last row rest)) (next_number number row rest) (next_last last row rest) rest
+    then height_from depth (plus height (whole_height depth number last row rest)) (next_number number row rest) (next_last last row rest) rest
     else height
 
 abbrev pub height_inside : ℕ → ℕ → ℕ → List Row → ℕ
@@ -210,7 +220,7 @@ frame_right g row = g.cost_x - (4 * indent row + 14)
 
 abbrev pub frame_mark : Layout → Area → ℕ → Row → Mark
 frame_mark g a inside row =
-    mark.Rectangle a (at (frame_left row) 2) (frame_right g row - frame_left row) (plus (height_of row) inside - (2 * indent row + 4))
+    mark.Rectangle a (at (frame_left row) 2) (frame_right g row - frame_left row) (plus (height_of row) inside - 4)
 
 abbrev pub parting_mark : Layout → Row → Mark
 parting_mark g row = mark.Line stroke.Otherwise (at (frame_left row - 14) 2) (at (frame_right g row) 2)

@@ -283,7 +283,7 @@ pub(crate) fn push_rows(
         add_row(alloc, &mut run, scene, row)?;
         let at = RowAt { y, number, last };
         run = push_step(alloc, marks, scene, at, run, row, rest)?;
-        y = y.saturating_add(whole_height(number, last, row, rest));
+        y = y.saturating_add(whole_height(0, number, last, row, rest));
         last = next_last(last, row, rest);
         number = next_number(number, row, rest);
     }

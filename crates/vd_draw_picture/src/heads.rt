@@ -157,7 +157,7 @@ fn before_place(place: u64) -> &'static [u8]
     if place < 2 { b"; dearest: (" } else { b", (" }
 }
 
-/// Puts the name of a row at the end that has this place among the dearest: `(1) min(a, b) 41 %`.
+/// Puts what is said of a row at the end that has this place among the dearest: `(1) 12: min(a, b) 41 %`.
 fn push_dear(
     alloc: Global,
     said: &mut Bytes,
@@ -170,7 +170,7 @@ fn push_dear(
     said.extend_from_slice(before_place(place))?;
     push_number(said, place)?;
     said.extend_from_slice(b") ")?;
-    let name = cut(alloc, 20, row.text.as_slice())?;
+    let name = cut(alloc, 28, row.said.as_slice())?;
     said.extend_from_slice(name.as_slice())?;
     said.extend_from_slice(b" ")?;
     push_number(said, row.cost.saturating_mul(100) / total.max(1))?;

@@ -104,14 +104,34 @@ pub(crate) fn height_above(number: u64, last: usize, row: &Row) -> u64
     names_height(number).saturating_add(line_height(last, row))
 }
 
-/// How high a row is, with what stands above it.
-pub(crate) fn whole_height(number: u64, last: usize, row: &Row, rest: &[Row]) -> u64
-    ensures { result ≡ row_marks.whole_height number last row.now rest.now }
+/// How deep the row behind a row stands.
+fn depth_behind(rest: &[Row]) -> u32
+    ensures { result ≡ row_marks.depth_behind rest.now }
+{
+    match rest.first() {
+        Some(next) => next.depth,
+        None => 1,
+    }
+}
+
+/// The room below a row for the ends of blocks: six points for each that ends there, of those in a block that begins at this depth.
+fn room_below(depth: u32, row: &Row, rest: &[Row]) -> u64
+    ensures { result ≡ row_marks.room_below depth row.now rest.now }
+{
+    let ends = row.depth.saturating_sub(depth_behind(rest).max(depth));
+    u64::from(ends).saturating_mul(6)
+}
+
+/// How high a row is, with what stands above it and the ends of blocks below it.
+pub(crate) fn whole_height(depth: u32, number: u64, last: usize, row: &Row, rest: &[Row]) -> u64
+    ensures { result ≡ row_marks.whole_height depth number last row.now rest.now }
 {
     if goes_on(row, rest) {
         0
     } else {
-        height_above(number, last, row).saturating_add(height_of(row))
+        height_above(number, last, row)
+            .saturating_add(height_of(row))
+            .saturating_add(room_below(depth, row, rest))
     }
 }
 
@@ -128,7 +148,7 @@ pub(crate) fn height_inside(depth: u32, number: u64, last: usize, rows: &[Row]) 
             return height;
         }
         let rest = &rows[place + 1..];
-        height = height.saturating_add(whole_height(number, last, row, rest));
+        height = height.saturating_add(whole_height(depth, number, last, row, rest));
         last = next_last(last, row, rest);
         number = next_number(number, row, rest);
     }
@@ -483,12 +503,7 @@ fn frame_mark(layout: &Layout, area: Area, inside: u64, row: &Row) -> Mark
     let place = Place { x: left, y: 2 };
     let width = frame_right(layout, row).saturating_sub(left);
     let height = height_of(row).saturating_add(inside);
-    Mark::Rectangle(
-        area,
-        place,
-        width,
-        height.saturating_sub(2 * indent(row) + 4),
-    )
+    Mark::Rectangle(area, place, width, height.saturating_sub(4))
 }
 
 /// What parts the two blocks of a branch.

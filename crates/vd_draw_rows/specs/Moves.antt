@@ -115,6 +115,12 @@ abbrev pub is_indexed : Right → Bool
 is_indexed (Get v i) = true
 is_indexed other = false
 
+-- an input, or the number of a loop's turn
+abbrev pub is_alone : Right → Bool
+is_alone (Input h) = true
+is_alone Turn = true
+is_alone other = false
+
 -- what the operation costs at a protocol
 abbrev pub operation_of : Right → Proto → ℕ
 operation_of (Apply o ys) p = unwrap_or (op_cost_at o p) 0

@@ -17,7 +17,7 @@ use Rattle.vd_draw_rows.specs.declared.row.Move.{Move}
 use Rattle.vd_draw_rows.specs.declared.row.Row.{Row}
 use Rattle.vd_draw_rows.specs.Lines.{line_at, slot_line}
 use Rattle.vd_draw_rows.specs.Texts.{binding_text, variable_text, array_text, store_text, put_text, output_text, branch_text, loop_text}
-use Rattle.vd_draw_rows.specs.Moves.{move_of, one_move, told_to, element_moves, right_moves, is_indexed, operation_of, is_part}
+use Rattle.vd_draw_rows.specs.Moves.{move_of, one_move, told_to, element_moves, right_moves, is_alone, is_indexed, operation_of, is_part}
 
 -- what a statement brings: its rows, where it is done so often and so deep, the slots that it names, and the hosts that it tells something
 pub record Drawn : Type 0 where
@@ -39,10 +39,10 @@ abbrev pub deeper : ℕ → ℕ
 deeper depth = min (depth + 1) (2 ^ 32 - 1)
 
 abbrev pub otherwise_row : ℕ → ℕ → Row
-otherwise_row weight depth = record { kind = kind.Otherwise; depth = depth; offset = None; slot = None; line = None; at = None; text = codes "else"; moves = []; indexed = false; operation = 0; weight = weight }
+otherwise_row weight depth = record { kind = kind.Otherwise; depth = depth; offset = None; slot = None; line = None; at = None; text = codes "else"; moves = []; indexed = false; alone = false; operation = 0; weight = weight }
 
 abbrev pub loop_row : ℕ → ℕ → ℕ → Row
-loop_row weight depth count = record { kind = kind.Loop; depth = depth; offset = None; slot = None; line = None; at = None; text = loop_text count; moves = []; indexed = false; operation = 0; weight = weight }
+loop_row weight depth count = record { kind = kind.Loop; depth = depth; offset = None; slot = None; line = None; at = None; text = loop_text count; moves = []; indexed = false; alone = false; operation = 0; weight = weight }
 
 module _ (source : List ℕ) (p : NormalForm) (list : List Proto) where
   abbrev pub binding_row : ℕ → ℕ → SlotId → Right → Row
@@ -56,6 +56,7 @@ module _ (source : List ℕ) (p : NormalForm) (list : List Proto) where
     text = binding_text p.hosts p.slots x right;
     moves = right_moves list (length p.hosts) x right;
     indexed = is_indexed right;
+    alone = is_alone right;
     operation = operation_of right (proto_in list x.0);
     weight = weight;
   }
@@ -71,6 +72,7 @@ module _ (source : List ℕ) (p : NormalForm) (list : List Proto) where
     text = variable_text p.slots v y;
     moves = one_move list y (proto_in list v.0);
     indexed = false;
+    alone = false;
     operation = 0;
     weight = weight;
   }
@@ -86,6 +88,7 @@ module _ (source : List ℕ) (p : NormalForm) (list : List Proto) where
     text = array_text p.slots v cells;
     moves = [];
     indexed = false;
+    alone = false;
     operation = 0;
     weight = weight;
   }
@@ -101,6 +104,7 @@ module _ (source : List ℕ) (p : NormalForm) (list : List Proto) where
     text = store_text p.slots v y;
     moves = one_move list y (proto_in list v.0);
     indexed = false;
+    alone = false;
     operation = 0;
     weight = weight;
   }
@@ -116,6 +120,7 @@ module _ (source : List ℕ) (p : NormalForm) (list : List Proto) where
     text = put_text p.slots v i y;
     moves = element_moves list (length p.hosts) v i (move_of list y (proto_in list v.0));
     indexed = true;
+    alone = false;
     operation = 0;
     weight = weight;
   }
@@ -131,6 +136,7 @@ module _ (source : List ℕ) (p : NormalForm) (list : List Proto) where
     text = output_text p.hosts p.slots y h;
     moves = one_move list y (Local h);
     indexed = false;
+    alone = false;
     operation = 0;
     weight = weight;
   }
@@ -150,6 +156,7 @@ module _ (source : List ℕ) (p : NormalForm) (list : List Proto) where
     text = branch_text p.slots g;
     moves = guard_moves g first other;
     indexed = false;
+    alone = false;
     operation = 0;
     weight = weight;
   }

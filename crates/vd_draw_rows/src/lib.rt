@@ -12,7 +12,7 @@ mod texts;
 mod wire;
 
 pub use laws::costs_add_up;
-pub use lines::is_printable;
+pub use lines::{is_printable, shown_line};
 pub use moves::{arrow_of, is_seen, is_told};
 pub use row::{Arrow, Kind, Line, Move, Row};
 pub use rows::rows_of;

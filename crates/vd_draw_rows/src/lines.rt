@@ -58,7 +58,7 @@ fn shown(alloc: Global, line: &[u8]) -> Result<Bytes, AllocError>
 }
 
 /// The line of the source from an offset on, as it is shown.
-fn shown_line(alloc: Global, source: &[u8], offset: usize) -> Result<Bytes, AllocError>
+pub fn shown_line(alloc: Global, source: &[u8], offset: usize) -> Result<Bytes, AllocError>
     ensures { IfOk result (λ text. text ≡ lines.shown_line source.now offset) }
 {
     shown(alloc, line_behind(source, offset))

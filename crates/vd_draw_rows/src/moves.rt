@@ -230,6 +230,13 @@ pub(crate) fn is_indexed(right: &Right) -> bool
     matches!(right, Right::Get(_, _))
 }
 
+/// Whether a right side is an input, or the number of a loop's turn.
+pub(crate) fn is_alone(right: &Right) -> bool
+    ensures { result ≡ moves_spec.is_alone right.now }
+{
+    matches!(right, Right::Input(_) | Right::Turn)
+}
+
 /// What the operation of a right side costs at a protocol.
 pub(crate) fn operation_cost(right: &Right, at: Proto) -> u32
     ensures { result ≡ moves_spec.operation_of right.now at }

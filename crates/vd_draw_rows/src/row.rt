@@ -82,6 +82,8 @@ pub struct Row {
     pub moves: Items<Move>,
     /// Whether all of these but the last are the index of an element.
     pub indexed: bool,
+    /// Whether it is drawn alone: an input, or the number of a loop's turn.
+    pub alone: bool,
     /// What its operation costs, once.
     pub operation: u32,
     /// How often it is done.

@@ -8,7 +8,7 @@ ghost use Rattle.vd_draw_rows.specs.Rows as rows_spec;
 
 use crate::lines::{line_at, slot_line};
 use crate::moves::{
-    element_moves, is_indexed, move_of, one_move, operation_cost, right_moves, tell,
+    element_moves, is_alone, is_indexed, move_of, one_move, operation_cost, right_moves, tell,
 };
 use crate::parts::takes_part_in_either;
 use crate::row::{Kind, Move, Row};
@@ -185,6 +185,7 @@ fn binding_row(
         text,
         moves: right_moves(alloc, placed.list, count_of_hosts(placed.form), slot, right)?,
         indexed: is_indexed(right),
+        alone: is_alone(right),
         operation: operation_cost(right, at),
         weight: around.weight,
     })
@@ -224,6 +225,7 @@ fn variable_row(
         text,
         moves: one_move(alloc, placed.list, value, at)?,
         indexed: false,
+        alone: false,
         operation: 0,
         weight: around.weight,
     })
@@ -254,6 +256,7 @@ fn array_row(
         text,
         moves: Items::new(alloc),
         indexed: false,
+        alone: false,
         operation: 0,
         weight: around.weight,
     })
@@ -283,6 +286,7 @@ fn store_row(
         text,
         moves: one_move(alloc, placed.list, value, at)?,
         indexed: false,
+        alone: false,
         operation: 0,
         weight: around.weight,
     })
@@ -322,6 +326,7 @@ fn put_row(
             last,
         )?,
         indexed: true,
+        alone: false,
         operation: 0,
         weight: around.weight,
     })
@@ -355,6 +360,7 @@ fn output_row(
         text,
         moves: one_move(alloc, placed.list, value, at)?,
         indexed: false,
+        alone: false,
         operation: 0,
         weight: around.weight,
     })
@@ -411,6 +417,7 @@ fn branch_row(
         text,
         moves: guard_moves(alloc, placed, guard, first, other)?,
         indexed: false,
+        alone: false,
         operation: 0,
         weight: around.weight,
     })
@@ -430,6 +437,7 @@ fn otherwise_row(alloc: Global, around: Around) -> Result<Row, AllocError>
         text: Bytes::from_slice(alloc, b"else")?,
         moves: Items::new(alloc),
         indexed: false,
+        alone: false,
         operation: 0,
         weight: around.weight,
     })
@@ -451,6 +459,7 @@ fn loop_row(alloc: Global, around: Around, count: u32) -> Result<Row, AllocError
         text,
         moves: Items::new(alloc),
         indexed: false,
+        alone: false,
         operation: 0,
         weight: around.weight,
     })

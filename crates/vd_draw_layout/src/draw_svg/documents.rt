@@ -7,6 +7,7 @@ ghost use Rattle.vd_draw_layout.specs.Tags.{mark_text};
 
 use crate::draw_svg::marks::Mark;
 use crate::draw_svg::tags::{push_attribute, push_mark};
+use crate::words::push_number;
 use std::alloc::{AllocError, Global};
 use vd_base::Bytes;
 
@@ -98,6 +99,17 @@ fn begin() -> &'static str
     BEGIN
 }
 
+/// Puts what of a drawing is shown at the end, which is all: so it can be scaled.
+fn push_view(text: &mut Bytes, width: u64, height: u64) -> Result<(), AllocError>
+    ensures { OnOk result (text.new ≡ text.old ++ documents.view_text width height) }
+{
+    text.extend_from_slice(b" viewBox=\"0 0 ")?;
+    push_number(text, width)?;
+    text.extend_from_slice(b" ")?;
+    push_number(text, height)?;
+    text.extend_from_slice(b"\"")
+}
+
 /// Puts the beginning of a drawing at the end.
 fn push_head(text: &mut Bytes, width: u64, height: u64) -> Result<(), AllocError>
     ensures { OnOk result (text.new ≡ text.old ++ documents.head_text width height) }
@@ -105,6 +117,7 @@ fn push_head(text: &mut Bytes, width: u64, height: u64) -> Result<(), AllocError
     text.extend_from_slice(begin().as_bytes())?;
     push_attribute(text, b" width", width)?;
     push_attribute(text, b" height", height)?;
+    push_view(text, width, height)?;
     text.extend_from_slice(b">\n")?;
     text.extend_from_slice(look().as_bytes())
 }
