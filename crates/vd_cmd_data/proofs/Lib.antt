@@ -9,3 +9,10 @@ mod Few
 mod Marks
 mod EmptyLines
 mod WordsGiven
+mod Splitting
+mod Unreported
+mod NoFloats
+mod Laying
+mod Reported
+mod ReportRefusing
+mod RunsRead

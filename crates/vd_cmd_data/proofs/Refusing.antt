@@ -20,7 +20,7 @@ both (Ok b) (Ok bs) p q = tt
 both (Ok b) (Err status) p q = q
 both (Err status) rest p q = p
 
-each : {A B : Type 0} (f : ℕ → A → Result B Status) → ((n : ℕ) (a : A) → Refuses (f n a)) → (n : ℕ) (list : List A) → Refuses (each_from f n list)
+pub each : {A B : Type 0} (f : ℕ → A → Result B Status) → ((n : ℕ) (a : A) → Refuses (f n a)) → (n : ℕ) (list : List A) → Refuses (each_from f n list)
 unfolding each_from
 each f all n [] = tt
 each f all n (a ∷ more) = both (f n a) (each_from f (n + 1) more) (all n a) (each f all (n + 1) more)
@@ -33,7 +33,7 @@ place : (file : List ℕ) (number factor : ℕ) (o : Option ℕ) → Refuses (co
 place file number factor (Some p) = tt
 place file number factor None = λ e. cc e
 
-by_test : {B : Type 0} (t : Bool) (r other : Result B Status) → Refuses r → Refuses other → Refuses (if t then r else other)
+pub by_test : {B : Type 0} (t : Bool) (r other : Result B Status) → Refuses r → Refuses other → Refuses (if t then r else other)
 by_test true r other p q = p
 by_test false r other p q = q
 
@@ -47,7 +47,7 @@ counted file columns width rows =
     by_test (nat_le (length rows * length columns) most_input_words) (each_from (row_words file columns width) 2 rows) (Err (Table file (most_input_words / length columns + 2) 1 Many))
     (each (row_words file columns width) (row file columns width) 2 rows) (λ e. cc e)
 
-go_on : {A B : Type 0} (r : Result A Status) (next : A → Result B Status) → Refuses r → ((a : A) → Refuses (next a)) → Refuses (then_with r next)
+pub go_on : {A B : Type 0} (r : Result A Status) (next : A → Result B Status) → Refuses r → ((a : A) → Refuses (next a)) → Refuses (then_with r next)
 go_on (Ok a) next p all = all a
 go_on (Err status) next p all = p
 
@@ -62,7 +62,7 @@ by_line : (file : List ℕ) (line : Option ℕ) (r : Result (List (List ℕ)) St
 by_line file None r p = p
 by_line file (Some line) r p = λ e. cc e
 
-as_refusal : {B : Type 0} (r : Result B Status) (status : Status) → Refuses r → r ≡ Err status → status ≡ Ended → ⊥
+pub as_refusal : {B : Type 0} (r : Result B Status) (status : Status) → Refuses r → r ≡ Err status → status ≡ Ended → ⊥
 as_refusal (Ok b) status p is = absurd (cc is)
 as_refusal (Err other) status p is = λ e. p (let same : other ≡ status = cc is in same ∙ e)
 

@@ -1,3 +1,11 @@
 pub mod Cells
 pub mod Tables
 pub mod Columns
+pub mod Spans
+pub mod Names
+pub mod Outputs
+pub mod Printed
+pub mod Readings
+pub mod ReportText
+pub mod Reporting
+pub mod RunsRead
