@@ -19,6 +19,7 @@ usage_table =
     ∷ (codes "check", codes "usage: viaduct check PROGRAM INPUTS DEAL\n")
     ∷ (codes "host", codes "usage: viaduct host PROGRAM INPUTS DEAL ADDR..\n")
     ∷ (codes "host-within", codes "usage: viaduct host-within SECONDS PROGRAM INPUTS DEAL ADDR..\n")
+    ∷ (codes "report", codes "usage: viaduct report SOURCE HOST FILE [json]\n")
     ∷ (codes "run", codes "usage: viaduct run SOURCE INPUTS PREFIX SELF PORT\n")
     ∷ (codes "excuse", codes "usage: viaduct excuse SOURCE INPUTS INPUTS2 PREFIX HOST OUT [BUDGET]\n")
     ∷ (codes "depends", codes "usage: viaduct depends SOURCE HOSTS\n")

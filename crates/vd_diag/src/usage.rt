@@ -5,7 +5,7 @@ ghost use Rattle.vd_diag.specs.Usage as usage;
 
 use crate::tables::in_table;
 
-const USAGES: [(&[u8], &[u8]); 21] = [
+const USAGES: [(&[u8], &[u8]); 22] = [
     (b"clear", b"usage: viaduct clear SOURCE INPUTS\n"),
     (b"labels", b"usage: viaduct labels SOURCE\n"),
     (b"choose", b"usage: viaduct choose SOURCE [BUDGET]\n"),
@@ -38,6 +38,10 @@ const USAGES: [(&[u8], &[u8]); 21] = [
     (
         b"host-within",
         b"usage: viaduct host-within SECONDS PROGRAM INPUTS DEAL ADDR..\n",
+    ),
+    (
+        b"report",
+        b"usage: viaduct report SOURCE HOST FILE [json]\n",
     ),
     (
         b"run",
