@@ -38,6 +38,7 @@ named_ahead = record {
   depends = λ source names. inl refl;
   influences = λ source host. inl refl;
   column = λ words. inl refl;
+  report = λ words. (inl refl, inr (inl refl));
   key = λ words name same. subst (λ (k : KeySource). IsAmong (file name 32) (key_files k)) (sym same) (inl refl);
   replay = λ words. (inl refl, inr (inl refl), inr (inr (inr (inr (inr (inr (inl refl)))))));
   replayed_deals = λ words. replayed words;

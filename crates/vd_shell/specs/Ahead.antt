@@ -5,7 +5,7 @@ use Rattle.vd_cmd.specs.declared.command.Command.{Command}
 use Rattle.vd_cmd.specs.declared.command.Command.TheVariants.{OnFiles, KeyDeal, Early, Host, Check, Run}
 use Rattle.vd_cmd.specs.declared.command.KeySource.{KeySource}
 use Rattle.vd_cmd.specs.declared.command.KeySource.TheVariants.{Drawn, InFile}
-use Rattle.vd_cmd.specs.declared.command.FilesCommand.TheVariants.{Clear, Labels, Choose, Draw, Reveals, Certify, Compile, Needs, Deal, Replay, Excuse, Depends, Influences, Column, Gen, Trial}
+use Rattle.vd_cmd.specs.declared.command.FilesCommand.TheVariants.{Clear, Labels, Choose, Draw, Reveals, Certify, Compile, Needs, Deal, Replay, Excuse, Depends, Influences, Column, Report, Gen, Trial}
 use Rattle.vd_cmd_plan.specs.Numbered.{file_name}
 use Rattle.vd_edge.specs.declared.kept.Wanted.{Wanted}
 
@@ -43,6 +43,7 @@ wanted_of (OnFiles (Excuse words)) =
 wanted_of (OnFiles (Depends source names)) = file source most_source_bytes ∷ []
 wanted_of (OnFiles (Influences source host)) = file source most_source_bytes ∷ []
 wanted_of (OnFiles (Column words)) = file words.file most_inputs_bytes ∷ []
+wanted_of (OnFiles (Report words)) = file words.source most_source_bytes ∷ file words.file most_inputs_bytes ∷ []
 wanted_of (OnFiles (Gen coordinates)) = []
 wanted_of (OnFiles (Trial coordinates)) = []
 wanted_of (KeyDeal words) = key_files words.key

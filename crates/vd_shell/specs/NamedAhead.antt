@@ -13,10 +13,11 @@ use Rattle.vd_cmd.specs.declared.command.KeyDealWords.{KeyDealWords}
 use Rattle.vd_cmd.specs.declared.command.KeySource.TheVariants.{InFile}
 use Rattle.vd_cmd.specs.declared.command.NeedsWords.{NeedsWords}
 use Rattle.vd_cmd.specs.declared.command.ReplayWords.{ReplayWords}
+use Rattle.vd_cmd.specs.declared.command.ReportWords.{ReportWords}
 use Rattle.vd_cmd.specs.declared.command.RevealsWords.{RevealsWords}
 use Rattle.vd_cmd.specs.declared.command.RunWords.{RunWords}
 use Rattle.vd_cmd.specs.declared.command.FilesCommand.TheVariants.{Clear, Labels, Choose, Draw, Reveals, Certify, Compile, Needs, Replay}
-use Rattle.vd_cmd.specs.declared.command.FilesCommand.TheVariants.{Excuse, Depends, Influences, Column}
+use Rattle.vd_cmd.specs.declared.command.FilesCommand.TheVariants.{Excuse, Depends, Influences, Column, Report}
 use Rattle.vd_cmd_plan.specs.Numbered.{file_name}
 use Rattle.vd_edge.specs.declared.kept.Wanted.{Wanted}
 use Rattle.vd_shell.specs.Ahead.{file, wanted_of}
@@ -49,6 +50,8 @@ pub record NamedFilesAreAhead : Type 0 where
   pub depends : (source : List ℕ) (names : List (List ℕ)) → IsAhead (OnFiles (Depends source names)) source most_source_bytes
   pub influences : (source host : List ℕ) → IsAhead (OnFiles (Influences source host)) source most_source_bytes
   pub column : (words : ColumnWords) → IsAhead (OnFiles (Column words)) words.file most_inputs_bytes
+  pub report : (words : ReportWords) → IsAhead (OnFiles (Report words)) words.source most_source_bytes
+      × IsAhead (OnFiles (Report words)) words.file most_inputs_bytes
   pub key : (words : KeyDealWords) (name : List ℕ) → words.key ≡ InFile name → IsAhead (KeyDeal words) name 32
   pub replay : (words : ReplayWords) → IsAhead (OnFiles (Replay words)) words.source most_source_bytes
       × IsAhead (OnFiles (Replay words)) words.inputs most_inputs_bytes

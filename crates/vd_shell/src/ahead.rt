@@ -142,6 +142,9 @@ fn files_of(alloc: Global, command: &Command) -> Result<Items<Wanted>, AllocErro
         Command::OnFiles(FilesCommand::Reveals(words)) => one(alloc, &words.source, SOURCE_BYTES),
         Command::OnFiles(FilesCommand::Needs(words)) => one(alloc, &words.file, HOST_FILE_BYTES),
         Command::OnFiles(FilesCommand::Column(words)) => one(alloc, &words.file, INPUTS_BYTES),
+        Command::OnFiles(FilesCommand::Report(words)) => {
+            source_and(alloc, &words.source, &words.file, INPUTS_BYTES)
+        }
         Command::OnFiles(FilesCommand::Replay(words)) => replayed(alloc, words),
         Command::OnFiles(FilesCommand::Excuse(words)) => excused(alloc, words),
         Command::OnFiles(FilesCommand::Deal(..) | FilesCommand::Gen(_) | FilesCommand::Trial(_)) =>
