@@ -7,7 +7,7 @@ use Rattle.vd_cmd.specs.Commands.{KeepsLimits, form_of}
 use Rattle.vd_cmd.specs.declared.command.Command.{Command}
 use Rattle.vd_cmd.specs.declared.command.Command.TheVariants.{OnFiles}
 use Rattle.vd_cmd.specs.declared.command.FilesCommand.{FilesCommand}
-use Rattle.vd_cmd.specs.declared.command.FilesCommand.TheVariants.{Certify, Choose, Column, Compile, Deal, Draw, Labels, Reveals}
+use Rattle.vd_cmd.specs.declared.command.FilesCommand.TheVariants.{Certify, Choose, Column, Compile, Deal, Draw, Labels, Report, Reveals}
 use Rattle.vd_cmd_plan.specs.Deliver.{stored}
 use Rattle.vd_cmd_plan.specs.Plans.{answer_then}
 use Rattle.vd_cmd_plan.specs.declared.answer.Answer.{Answer}
@@ -18,9 +18,9 @@ use Rattle.vd_cmd_laws.specs.Answers.{TellsChoice, TellsCompiled, TellsLabels, T
 use Rattle.vd_cmd_laws.proofs.Front.{choices_tell, compiled_tell, labels_tell, proofs_tell}
 use Rattle.vd_cmd_laws.specs.Dealt.{TellsDeal}
 use Rattle.vd_cmd_laws.proofs.Front.{deals_tell}
-use Rattle.vd_cmd_data.proofs.Front.{columns_told}
+use Rattle.vd_cmd_data.proofs.Front.{columns_told, reports_told}
 use Rattle.vd_cmd_draw.proofs.Front.{drawings_tell, reveals_told}
-use Rattle.vd_top.specs.Answers.{Adds, AreWithinLimits, KeepsChoice, KeepsColumn, KeepsCompiled, KeepsDeal, KeepsDrawing, KeepsLabels, KeepsProof, KeepsReveals}
+use Rattle.vd_top.specs.Answers.{Adds, AreWithinLimits, KeepsChoice, KeepsColumn, KeepsCompiled, KeepsDeal, KeepsDrawing, KeepsLabels, KeepsProof, KeepsReport, KeepsReveals}
 use Rattle.vd_top.specs.Commands.{RunsForm, RunsWords, plan_of, search_of}
 use Rattle.vd_top.proofs.Words.{are_counts, some_outcomes}
 
@@ -115,6 +115,16 @@ module _ (words : List (List ℕ)) (before now : FilesView) (out_before out_now 
         printed = (plan_of some_outcomes (search_of some_outcomes r.0) (Column column) before.contents).answer.printed;
         added = w.left told out_told;
         tells = columns_told column before.contents (sym (w.answered told));
+      }
+
+  pub report_of : KeepsReport words before out_before out_now status
+  report_of report form told out_told ends =
+      let r = ran (Report report) form ends in
+      let w = r.1 some_outcomes in
+      record {
+        printed = (plan_of some_outcomes (search_of some_outcomes r.0) (Report report) before.contents).answer.printed;
+        added = w.left told out_told;
+        tells = reports_told some_outcomes.texts some_outcomes.labels report before.contents (sym (w.answered told));
       }
 
   pub deal_of : AreWithinLimits words status → KeepsDeal words before now status

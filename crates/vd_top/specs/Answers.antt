@@ -1,4 +1,4 @@
--- What a run of `labels`, `certify`, `choose`, `draw`, `reveals`, `compile`, `column` or `deal` has shown, where it ended well.
+-- What a run of `labels`, `certify`, `choose`, `draw`, `reveals`, `compile`, `column`, `report` or `deal` has shown, where it ended well.
 use Rattle.std.specs.Prelude.{◌≡◌, ℕ, IsTrue, List, ◌++◌, Some}
 use Rattle.vd_outside.specs.Files.{FilesView}
 use Rattle.vd_outside.specs.Sink.{SinkView}
@@ -8,7 +8,8 @@ use Rattle.vd_cmd.specs.declared.command.Command.{Command}
 use Rattle.vd_cmd.specs.declared.command.Command.TheVariants.{KeyDeal, OnFiles}
 use Rattle.vd_cmd.specs.declared.command.KeyDealWords.{KeyDealWords}
 use Rattle.vd_cmd.specs.declared.command.ColumnWords.{ColumnWords}
-use Rattle.vd_cmd.specs.declared.command.FilesCommand.TheVariants.{Certify, Choose, Column, Compile, Deal, Draw, Labels, Reveals}
+use Rattle.vd_cmd.specs.declared.command.FilesCommand.TheVariants.{Certify, Choose, Column, Compile, Deal, Draw, Labels, Report, Reveals}
+use Rattle.vd_cmd.specs.declared.command.ReportWords.{ReportWords}
 use Rattle.vd_cmd.specs.declared.command.RevealsWords.{RevealsWords}
 use Rattle.vd_cmd_plan.specs.declared.status.Status.{Status}
 use Rattle.vd_cmd_plan.specs.declared.status.Status.TheVariants.{Ended}
@@ -16,6 +17,7 @@ use Rattle.vd_cmd_laws.specs.Answers.{TellsChoice, TellsCompiled, TellsLabels, T
 use Rattle.vd_cmd_laws.specs.Dealt.{TellsDeal}
 use Rattle.vd_cmd_laws.specs.KeyedDealt.{TellsKeyed}
 use Rattle.vd_cmd_data.specs.Columns.{TellsColumn}
+use Rattle.vd_cmd_data.specs.Reporting.{TellsReport}
 use Rattle.vd_cmd_draw.specs.Telling.{TellsDrawing}
 use Rattle.vd_cmd_draw.specs.RevealsTelling.{TellsReveals}
 
@@ -70,6 +72,13 @@ abbrev pub KeepsColumn : (words : List (List ℕ)) → FilesView → SinkView �
 KeepsColumn words before out_before out_now status =
     (column : ColumnWords) → form_of words ≡ Some (OnFiles (Column column)) → IsTrue before.told → IsTrue out_now.told → status ≡ Ended
     → Adds (TellsColumn column before.contents) out_before out_now
+
+-- Where they are those of `report`, it has printed the words that the file says the host printed, each with the names of the outputs that
+-- can have told it.
+abbrev pub KeepsReport : (words : List (List ℕ)) → FilesView → SinkView → SinkView → Status → Type 0
+KeepsReport words before out_before out_now status =
+    (report : ReportWords) → form_of words ≡ Some (OnFiles (Report report)) → IsTrue before.told → IsTrue out_now.told → status ≡ Ended
+    → Adds (TellsReport report before.contents) out_before out_now
 
 -- Where they are those of `deal`, the files that then stand, read back, are consistent deals of all hosts, and `replay` refuses none.
 abbrev pub KeepsDeal : (words : List (List ℕ)) → FilesView → FilesView → Status → Type 0

@@ -10,7 +10,7 @@ use Rattle.vd_cmd.specs.declared.command.Command.{Command}
 use Rattle.vd_cmd_plan.specs.Lines.{Says, status_line}
 use Rattle.vd_cmd_plan.specs.Runs.{Prints}
 use Rattle.vd_cmd_plan.specs.declared.status.Status.{Status}
-use Rattle.vd_top.specs.Answers.{KeepsChoice, KeepsColumn, KeepsCompiled, KeepsDeal, KeepsDrawing, KeepsKeyed, KeepsLabels, KeepsProof, KeepsReveals}
+use Rattle.vd_top.specs.Answers.{KeepsChoice, KeepsColumn, KeepsCompiled, KeepsDeal, KeepsDrawing, KeepsKeyed, KeepsLabels, KeepsProof, KeepsReport, KeepsReveals}
 use Rattle.vd_top.specs.Compiled.{KeepsStored, StoresForm}
 use Rattle.vd_top.specs.Early.{EarlyByWords, EarlyForm}
 use Rattle.vd_top.specs.Counts.{CountedForm, KeepsCount, counts_packets, counts_packets_by}
@@ -150,6 +150,8 @@ pub record Keeps (words : List (List ℕ)) (o : Around) (status : Status) : Type
   pub column : KeepsColumn words o.files.0 o.out.0 o.out.1 status
   -- With status 0 the files that `deal` stored are the texts of the deals of as many hosts as were asked for. All identities hold, and
   -- `replay` refuses none of them.
+  -- `report` has printed the words that a host printed, each with the names of the outputs that can have told it.
+  pub report : KeepsReport words o.files.0 o.out.0 o.out.1 status
   pub dealt : KeepsDeal words o.files.0 o.files.1 status
   -- So it is with a key of 32 bytes. Each file then also names the dealing, and has the keys of the links of its host.
   pub dealt_by_key : KeepsKeyed words o.files.0 o.files.1 status
