@@ -37,7 +37,16 @@ _viaduct() {
     PROGRAM) _viaduct_files host ;;
     DEAL) _viaduct_files deal ;;
     CERT) _viaduct_files cert ;;
-    FILE) _viaduct_files via host ;;
+    '[json]')
+      mapfile -t COMPREPLY < <(compgen -W json -- "$word") ;;
+    FILE)
+      case ${COMP_WORDS[1]} in
+        needs) _viaduct_files via host ;;
+        column) _viaduct_files csv ;;
+        *)
+          compopt -o filenames 2> /dev/null
+          mapfile -t COMPREPLY < <(compgen -f -- "$word") ;;
+      esac ;;
     INPUTS | INPUTS2 | PREFIX | OUT | SCHEDULE | SELF)
       compopt -o filenames 2> /dev/null
       mapfile -t COMPREPLY < <(compgen -f -- "$word") ;;
