@@ -15,7 +15,7 @@ use Rattle.vd_views.proofs.Front.{plan_is_tidy}
 use Rattle.vd_excuse.specs.Claims.{CanBeStepped}
 
 can_be_stepped : PairsAreReadOff → (program : NormalForm) (l : Labels) (protocols : List Proto) → IsOfTwo program l protocols → CanBeStepped (plan_of program protocols)
-can_be_stepped read_off program l protocols of_two = record { tidy = plan_is_tidy program l protocols of_two.free.chosen; read_off = read_off program (proto_in protocols) of_two.free.free }
+can_be_stepped read_off program l protocols of_two = record { tidy = plan_is_tidy program l protocols of_two.free.chosen; read_off = read_off program (proto_in protocols) }
 
 pub lead : PairsAreReadOff → (program : NormalForm) (protocols : List Proto) (lines : List Line) → lines ≡ flat (joint_of program protocols) [] → (P : Plan Gadget → Type 0)
     → ((plan : Plan Gadget) → lines ≡ flat (code plan) [] → CanBeStepped plan → P plan) → (l : Labels) → IsOfTwo program l protocols → P (plan_of program protocols)

@@ -1,5 +1,5 @@
 -- Where no slot stands at a commitment, no host takes an own word by itself in the plan of a program.
-use Rattle.std.proofs.Common.{◌≡◌, ℕ, true, List, [], ◌∷◌}
+use Rattle.std.proofs.Common.{◌≡◌, ℕ, true, refl, List, [], ◌∷◌}
 use Rattle.vd_base.specs.declared.ids.HostId.{HostId}
 use Rattle.vd_base.specs.declared.operations.Op.TheVariants as op
 use Rattle.vd_base.specs.declared.protocols.Proto.{Proto}
@@ -12,6 +12,7 @@ use Rattle.vd_execution.specs.Gadgets.{Gadget}
 use Rattle.vd_split.specs.Block.{Block, each}
 use Rattle.vd_split.specs.Emission.{Emitting, in_turn, stmt_emission}
 use Rattle.vd_backend_laws.specs.Parts.{has_back_end, suite_calls}
+use Rattle.vd_backend_laws.proofs.Front.{no_back_end}
 use Rattle.vd_views.specs.Sides.{Each, IsPlain, PlanIsPlain}
 use Rattle.vd_views.proofs.Sides.{each_append}
 use Rattle.vd_views.proofs.Ordinary.{all_plain, all_usual, gates_ordinary}
@@ -30,7 +31,10 @@ to_add_plain a b x next =
 pub plan_plain : (hosts : ℕ) (proto : ℕ → Proto) → ((x : ℕ) → has_back_end (proto x) ≡ true) → (b : Block) (e : Emitting (suite_calls hosts) proto)
     → PlanIsPlain ((in_turn (suite_calls hosts) proto (each (stmt_emission (suite_calls hosts) proto) b)).emit e).tree
 plan_plain hosts proto free b e =
-    plan_kept ArePlain PlanIsPlain (record {
+    plan_kept ArePlain PlanIsPlain (λ (q : Proto). has_back_end q ≡ true) (record {
+      local = λ k. refl;
+      bound = λ u v e x next. no_back_end e;
+      told_word = λ u v e held seen next. no_back_end e;
       usual = all_plain;
       to_sums = to_add_plain;
       both = each_append IsPlain;

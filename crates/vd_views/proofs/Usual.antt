@@ -1,5 +1,5 @@
--- What holds of usual gadgets and of the conversion to sums holds of every move.
-use Rattle.std.proofs.Common.{◌≡◌, ℕ, nat_eq, Bool, true, false, if◌then◌else◌, List, [], ◌∷◌, ◌++◌}
+-- What holds of usual gadgets, of the conversion to sums and of commitments holds of every move.
+use Rattle.std.proofs.Common.{ℕ, nat_eq, Bool, true, false, if◌then◌else◌, List, [], ◌∷◌, ◌++◌}
 use Rattle.std.specs.Prelude.{map}
 use Rattle.vd_base.specs.declared.ids.HostId.{HostId}
 use Rattle.vd_base.specs.declared.protocols.Proto.{Proto}
@@ -16,9 +16,12 @@ use Rattle.vd_backend_sharing.specs.declared.shares.PartRegisters.{PartRegisters
 use Rattle.vd_backend_sharing.specs.PairCalls.{shares_of, split_off, exchanged, shared_from, opened_by, shown_at}
 use Rattle.vd_backend_sharing.specs.Gates.{gates_of}
 use Rattle.vd_convert.specs.Convert.{masked_parts, to_xor_made, to_add_made}
+use Rattle.vd_commit.specs.declared.ends.Held.{Held}
+use Rattle.vd_commit.specs.declared.ends.Seen.{Seen}
+use Rattle.vd_commit.specs.Commit.{committed, revealed}
+use Rattle.vd_backend_laws.specs.Commits.{held_of, place, seen_of, shown_bound, taken_over}
 use Rattle.vd_backend_laws.specs.Moves.{only}
-use Rattle.vd_backend_laws.specs.Parts.{Parts as SlotParts, has_back_end, suite_calls}
-use Rattle.vd_backend_laws.proofs.Front.{no_back_end}
+use Rattle.vd_backend_laws.specs.Parts.{Parts as SlotParts, suite_calls}
 use Rattle.vd_views.proofs.Sides.{each_append}
 use Rattle.vd_views.proofs.Ordinary.{IsUsual, AreUsual, AreOrdinary, all_usual, each_by, gates_ordinary}
 
@@ -69,31 +72,44 @@ opened_usual s a b x k next = at (nat_eq k.0 a.0)
     at true = (tt, (tt, tt))
     at false = (tt, (tt, tt))
 
--- ---- every move
+-- ---- every move, where Q holds of both protocols
 
-module _ (A : List Gadget → Type 0) (usual : (gs : List Gadget) → AreUsual gs → A gs) (to_sums : (a b : HostId) (x : Places) (next : List ℕ) → A (to_add_made a b x next).gadgets) where
+module _ (A : List Gadget → Type 0) (Q : Proto → Type 0) (usual : (gs : List Gadget) → AreUsual gs → A gs) (to_sums : (a b : HostId) (x : Places) (next : List ℕ) → A (to_add_made a b x next).gadgets)
+    (bound : (u v : HostId) → Q (Commit u v) → (x : Reg) (next : List ℕ) → A (committed u v x next).gadgets)
+    (told_word : (u v : HostId) → Q (Commit u v) → (held : Held) (seen : Seen) (next : List ℕ) → A (revealed u v held seen next).gadgets) where
   ordinary : (gs : List Gadget) → AreOrdinary gs → A gs
   ordinary gs e = usual gs (all_usual gs e)
 
-  pub move_keeps : (hosts : ℕ) (p q : Proto) → has_back_end p ≡ true → has_back_end q ≡ true → (x : SlotParts) (next : List ℕ) → A ((suite_calls hosts).move p q x next).acts
-  move_keeps hosts (Commit u v) q e f x next = no_back_end e
+  shown_kept : (u v : HostId) → Q (Commit u v) → (x : Places) (k : HostId) (next : List ℕ) → A (shown_bound u v x k next).gadgets
+  shown_kept u v e x k next = at (nat_eq k.0 u.0)
+    where
+      at : (b : Bool) → let one : Made Reg = if b then taken_over (place x 0) next else revealed u v (held_of x) (seen_of x) next in A one.gadgets
+      at true = usual [] tt
+      at false = told_word u v e (held_of x) (seen_of x) next
+
+  pub move_keeps : (hosts : ℕ) (p q : Proto) → Q p → Q q → (x : SlotParts) (next : List ℕ) → A ((suite_calls hosts).move p q x next).acts
+  move_keeps hosts (Commit u v) (Local k) e f x next = shown_kept u v e x.at k next
+  move_keeps hosts (Commit u v) (Rep set) e f x next = told_word u v e (held_of x.at) (seen_of x.at) next
+  move_keeps hosts (Commit u v) (Commit a b) e f x next = usual _ tt
+  move_keeps hosts (Commit u v) (Add a b) e f x next = usual _ (tt, tt)
+  move_keeps hosts (Commit u v) (Xor a b) e f x next = usual _ (tt, tt)
   move_keeps hosts (Local a) (Local k) e f x next = usual _ (each_by IsUsual (passed a (only x.at)) (passed_usual a (only x.at)) (holders (Local k)) next)
   move_keeps hosts (Local a) (Rep set) e f x next = usual _ (each_by IsUsual (passed a (only x.at)) (passed_usual a (only x.at)) (holders (Rep set)) next)
-  move_keeps hosts (Local a) (Commit u v) e f x next = no_back_end f
+  move_keeps hosts (Local a) (Commit u v) e f x next = bound u v f (only x.at) next
   move_keeps hosts (Local a) (Add u v) e f x next = ordinary (shared_from BySums u v a (only x.at) next).gadgets (share_ordinary BySums u v a (only x.at) next)
   move_keeps hosts (Local a) (Xor u v) e f x next = ordinary (shared_from ByXors u v a (only x.at) next).gadgets (share_ordinary ByXors u v a (only x.at) next)
   move_keeps hosts (Rep set) (Local k) e f x next = usual _ (shown_usual x.at k next)
   move_keeps hosts (Rep set) (Rep other) e f x next = usual _ (each_by IsUsual (shown x.at) (shown_usual x.at) (holders (Rep other)) next)
-  move_keeps hosts (Rep set) (Commit u v) e f x next = no_back_end f
+  move_keeps hosts (Rep set) (Commit u v) e f x next = usual _ tt
   move_keeps hosts (Rep set) (Add u v) e f x next = usual _ (tt, tt)
   move_keeps hosts (Rep set) (Xor u v) e f x next = usual _ (tt, tt)
   move_keeps hosts (Add a b) (Local k) e f x next = usual _ (opened_usual BySums a b (shares_of x.at) k next)
   move_keeps hosts (Add a b) (Rep set) e f x next = usual _ (tt, (tt, (tt, (tt, tt))))
-  move_keeps hosts (Add a b) (Commit u v) e f x next = no_back_end f
+  move_keeps hosts (Add a b) (Commit u v) e f x next = usual _ tt
   move_keeps hosts (Add a b) (Add u v) e f x next = usual _ tt
   move_keeps hosts (Add a b) (Xor u v) e f x next = ordinary (to_xor_made u v x.at next).gadgets (to_xor_ordinary u v x.at next)
   move_keeps hosts (Xor a b) (Local k) e f x next = usual _ (opened_usual ByXors a b (shares_of x.at) k next)
   move_keeps hosts (Xor a b) (Rep set) e f x next = usual _ (tt, (tt, (tt, (tt, tt))))
-  move_keeps hosts (Xor a b) (Commit u v) e f x next = no_back_end f
+  move_keeps hosts (Xor a b) (Commit u v) e f x next = usual _ tt
   move_keeps hosts (Xor a b) (Add u v) e f x next = to_sums u v x.at next
   move_keeps hosts (Xor a b) (Xor u v) e f x next = usual _ tt

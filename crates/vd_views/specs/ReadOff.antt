@@ -1,5 +1,5 @@
 -- The registers of the word that a dealt pair converts, read off the gadgets that follow the pair.
-use Rattle.std.specs.Prelude.{◌≡◌, ℕ, true, List, [], ◌∷◌, Option, Some, None, slice_get}
+use Rattle.std.specs.Prelude.{◌≡◌, ℕ, List, [], ◌∷◌, Option, Some, None, slice_get}
 use Rattle.vd_base.specs.declared.ids.HostId.{HostId}
 use Rattle.vd_base.specs.declared.protocols.Proto.{Proto}
 use Rattle.vd_core.specs.declared.normal.NormalForm.{NormalForm}
@@ -8,7 +8,6 @@ use Rattle.vd_execution.specs.declared.instructions.Action.{Action}
 use Rattle.vd_execution.specs.declared.instructions.Action.TheVariants as action
 use Rattle.vd_execution.specs.Gadgets.{Pairing, Gadget, Alone, Tells, Shares, BothShare, Opens, Masked, Paired}
 use Rattle.vd_execution.specs.Plans.{Plan, Ends, Then, Branch, Loop}
-use Rattle.vd_backend_laws.specs.Parts.{has_back_end}
 use Rattle.vd_backend_laws.specs.Whole.{plan_at}
 
 -- a host, and its register of a part
@@ -68,6 +67,6 @@ PlanIsReadOff (Then g rest) = GadgetIsReadOff g (front rest) × PlanIsReadOff re
 PlanIsReadOff (Branch ps first other rest) = PlanIsReadOff first × (PlanIsReadOff other × PlanIsReadOff rest)
 PlanIsReadOff (Loop ps count body rest) = PlanIsReadOff body × PlanIsReadOff rest
 
--- and so it is in the plan of each program without commitments
+-- and so it is in the plan of each program, wherever its words stand
 abbrev pub PairsAreReadOff : Type 0
-PairsAreReadOff = (program : NormalForm) (proto : ℕ → Proto) → ((x : ℕ) → has_back_end (proto x) ≡ true) → PlanIsReadOff (plan_at proto program)
+PairsAreReadOff = (program : NormalForm) (proto : ℕ → Proto) → PlanIsReadOff (plan_at proto program)

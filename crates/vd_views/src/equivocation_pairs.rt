@@ -3,8 +3,8 @@
 
 ghost use Rattle.vd_views.specs.ReadOff.{PairsAreReadOff};
 
-/// In the plan of a program none of whose slots stands at a commitment, the two hosts that take a dealt pair, and their registers of
-/// the word that it converts, can be read off the three gadgets that follow it: the first host makes a number, turns its part by
+/// In the plan of every program, at whatever protocols, the two hosts that take a dealt pair, and their registers of the word that it
+/// converts, can be read off the three gadgets that follow it: the first host makes a number, turns its part by
 /// that, and then both mask their parts of that word.
 pub fn pairs_are_read_off()
     ensures { PairsAreReadOff }
