@@ -112,10 +112,10 @@ module _ (p : NormalForm) (l : Labels) (protocols : List Proto) (of_two : IsOfTw
     y = excused (alone h.0) t (plan_of p protocols) (with_inputs t (input_words second)) fresh fresh
 
     together : IsCoalition p (alone h.0)
-    together = (one_of_two_looks p l protocols of_two.free of_two.hosts h.0 low).0
+    together = (one_of_two_looks p l protocols h.0 (free_opens p l protocols of_two.free (alone h.0)) of_two.hosts low).0
 
     sight : OwnsInSight (alone h.0) (plan_of p protocols)
-    sight = (one_of_two_looks p l protocols of_two.free of_two.hosts h.0 low).1
+    sight = (one_of_two_looks p l protocols h.0 (free_opens p l protocols of_two.free (alone h.0)) of_two.hosts low).1
 
     explained : Explains (alone h.0) (plan_of p protocols) t (input_words second) y
     explained =

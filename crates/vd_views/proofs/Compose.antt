@@ -48,15 +48,15 @@ within_split ps (Then g r) b p = let rest = within_split ps r b p.1 in ((p.0, re
 within_split ps (Branch qs x o r) b p = let rest = within_split ps r b p.1 in ((p.0, rest.0), rest.1)
 within_split ps (Loop qs n body r) b p = let rest = within_split ps r b p.1 in ((p.0, rest.0), rest.1)
 
-pub plain_on : (a b : Plan Gadget) → PlanIsPlain a → PlanIsPlain b → PlanIsPlain (and_then a b)
-plain_on Ends b p q = q
-plain_on (Then g r) b p q = (p.0, plain_on r b p.1 q)
-plain_on (Branch ps x o r) b p q = (p.0, (p.1.0, plain_on r b p.1.1 q))
-plain_on (Loop ps n body r) b p q = (p.0, plain_on r b p.1 q)
+pub plain_on : (K : Coalition) (a b : Plan Gadget) → PlanIsPlain K a → PlanIsPlain K b → PlanIsPlain K (and_then a b)
+plain_on K Ends b p q = q
+plain_on K (Then g r) b p q = (p.0, plain_on K r b p.1 q)
+plain_on K (Branch ps x o r) b p q = (p.0, (p.1.0, plain_on K r b p.1.1 q))
+plain_on K (Loop ps n body r) b p q = (p.0, plain_on K r b p.1 q)
 
-pub plain_acts : (xs : List Gadget) (j : Plan Gadget) → Each IsPlain xs → PlanIsPlain j → PlanIsPlain (acts_then xs j)
-plain_acts [] j p q = q
-plain_acts (x ∷ xs) j p q = (p.0, plain_acts xs j p.1 q)
+pub plain_acts : (K : Coalition) (xs : List Gadget) (j : Plan Gadget) → Each (IsPlain K) xs → PlanIsPlain K j → PlanIsPlain K (acts_then xs j)
+plain_acts K [] j p q = q
+plain_acts K (x ∷ xs) j p q = (p.0, plain_acts K xs j p.1 q)
 
 pub nothing_along : (t u : Tape) (xs : List Gadget) (w v : Hosts) → AlongGadgets (λ g x y. Unit {0}) t u xs w v
 nothing_along t u [] w v = tt

@@ -137,7 +137,7 @@ module _ (p : NormalForm) (l : Labels) (protocols : List Proto) (of_two : IsOfTw
   -- ---- explained
 
   together : IsCoalition p (alone h.0)
-  together = (one_of_two_looks p l protocols of_two.free of_two.hosts h.0 low).0
+  together = (one_of_two_looks p l protocols h.0 (free_opens p l protocols of_two.free (alone h.0)) of_two.hosts low).0
 
   tidy : PlanIsTidy (plan_of p protocols)
   tidy = plan_is_tidy p l protocols of_two.free.chosen
@@ -147,7 +147,7 @@ module _ (p : NormalForm) (l : Labels) (protocols : List Proto) (of_two : IsOfTw
   own_counts inputs u y d e g = plan_owns everyone u y plan (all_sight plan tidy) tidy fresh fresh (choose_branches p l protocols of_two.free.chosen inputs u y d.deal d.inputs e.deal e.inputs) (λ k. refl) g
 
   sight : OwnsInSight (alone h.0) (plan_of p protocols)
-  sight = (one_of_two_looks p l protocols of_two.free of_two.hosts h.0 low).1
+  sight = (one_of_two_looks p l protocols h.0 (free_opens p l protocols of_two.free (alone h.0)) of_two.hosts low).1
 
   t_long : IsLongEnough (alone h.0) (counts_of (file 0 x ∷ file 1 w ∷ [])) plan (tape_of first (file 0 x ∷ file 1 w ∷ []))
   t_long = long_enough h.0 plan deals first deals enough (λ g s. refl)

@@ -20,6 +20,7 @@ use Rattle.vd_backend_sharing.specs.PairCalls.{shares_of, product_shares}
 use Rattle.vd_words.specs.AddCalls.{add_apply}
 use Rattle.vd_bits.specs.BitCalls.{parts_at, gate_shares, gates_shares}
 use Rattle.vd_backend_laws.specs.Parts.{Parts, back_end, turn_part, turned, put_in, printed, zeros_at, new_cells, index_of, cell_read, cell_written}
+use Rattle.vd_views.specs.Views.{Coalition}
 use Rattle.vd_views.specs.Sides.{Each, IsPlainAction, IsPlain, IsQuiet}
 use Rattle.vd_views.proofs.Sides.{each_append}
 use Rattle.vd_views.proofs.Rows.{IsUnpaired}
@@ -72,14 +73,14 @@ ordinary_usual (Opens sharing a x b y heard) o = tt
 ordinary_usual (Masked sharing m n) o = tt
 ordinary_usual (Paired p q) o = o
 
-usual_plain : (g : Gadget) → IsUsual g → IsPlain g
-usual_plain (Alone h a) u = u
-usual_plain (Tells a said b heard) u = tt
-usual_plain (Gives a r b heard) u = tt
-usual_plain (BothShare a r heard b q heard_b) u = tt
-usual_plain (Opens sharing a x b y heard) u = tt
-usual_plain (Masked sharing m n) u = tt
-usual_plain (Paired p q) u = tt
+usual_plain : (K : Coalition) (g : Gadget) → IsUsual g → IsPlain K g
+usual_plain K (Alone h a) u = λ o. u
+usual_plain K (Tells a said b heard) u = tt
+usual_plain K (Gives a r b heard) u = tt
+usual_plain K (BothShare a r heard b q heard_b) u = tt
+usual_plain K (Opens sharing a x b y heard) u = tt
+usual_plain K (Masked sharing m n) u = tt
+usual_plain K (Paired p q) u = tt
 
 usual_unpaired : (g : Gadget) → IsUsual g → IsUnpaired g
 usual_unpaired (Alone h a) u = tt
@@ -96,8 +97,8 @@ all_quiet gs e = each_so IsOrdinary IsQuiet ordinary_quiet gs e
 pub all_usual : (gs : List Gadget) → AreOrdinary gs → AreUsual gs
 all_usual gs e = each_so IsOrdinary IsUsual ordinary_usual gs e
 
-pub all_plain : (gs : List Gadget) → AreUsual gs → Each IsPlain gs
-all_plain gs e = each_so IsUsual IsPlain usual_plain gs e
+pub all_plain : (K : Coalition) (gs : List Gadget) → AreUsual gs → Each (IsPlain K) gs
+all_plain K gs e = each_so IsUsual (IsPlain K) (usual_plain K) gs e
 
 pub all_unpaired : (gs : List Gadget) → AreUsual gs → Each IsUnpaired gs
 all_unpaired gs e = each_so IsUsual IsUnpaired usual_unpaired gs e

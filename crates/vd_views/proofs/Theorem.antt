@@ -1,5 +1,5 @@
 -- Other inputs that agree for a coalition are explained to it by another deal.
-use Rattle.std.proofs.Common.{◌≡◌, ℕ, zero, suc, ◌^◌, ◌<◌, ◌≤◌, ◌+◌, ◌-◌, ◌≢◌, ◌⊎◌, nat_eq, ◌||◌, true, false, List, [], ◌∷◌, ◌++◌, inl, inr, length, drop, slice_index, refl, sym, ap, subst, ◌∙◌, arith, lit<, Bool, if◌then◌else◌, subst₂}
+use Rattle.std.proofs.Common.{◌≡◌, ℕ, zero, suc, ◌^◌, ◌<◌, ◌≤◌, ◌+◌, ◌-◌, ◌≢◌, ◌⊎◌, nat_eq, nat_lt, ◌&&◌, ◌||◌, not, true, false, true≢false, List, [], ◌∷◌, ◌++◌, inl, inr, length, drop, slice_index, refl, sym, ap, subst, ◌∙◌, arith, lit<, Bool, if◌then◌else◌, subst₂}
 use Rattle.std.specs.List.{concat, list_all}
 use Rattle.std.proofs.lemmas.Bool.{eq-eqb}
 use Rattle.std.proofs.lemmas.Bool.Decides.{eqb_tells}
@@ -26,10 +26,10 @@ use Rattle.vd_split.specs.Suite.{Laws}
 use Rattle.vd_split.specs.Emission.{Emitting, Emission, in_turn, stmt_emission, emitting_at_start}
 use Rattle.vd_split.specs.Outcome.{Starts}
 use Rattle.vd_split.specs.ChoreographyPlaces.{is_part}
-use Rattle.vd_split.proofs.Front.{fold_each, or_left, or_right, row_of, slots, program_within, all_fit, no_turns, tied_at_start}
+use Rattle.vd_split.proofs.Front.{and_left, fold_each, or_left, or_right, row_of, slots, program_within, all_fit, no_turns, tied_at_start}
 use Rattle.vd_backend_laws.specs.Machine.{machine}
 use Rattle.vd_backend_laws.specs.Parts.{has_back_end, suite_calls}
-use Rattle.vd_backend_laws.specs.Suite.{suite}
+use Rattle.vd_backend_laws.specs.Suite.{IsOver, suite}
 use Rattle.vd_backend_laws.specs.Whole.{inputs_of, CanRun, RunsAsToldBy}
 use Rattle.vd_backend_laws.specs.Given.{zero_deal}
 use Rattle.vd_backend_laws.proofs.Front.{no_back_end, zero_deals_are_valid, suite_laws, suite_places, within}
@@ -49,9 +49,10 @@ use Rattle.vd_views.proofs.WayBack.{first_again}
 use Rattle.vd_noninter.specs.Reading.{start}
 use Rattle.vd_noninter_protocols.specs.Hearing.{Heard, heard_step, heard_in_order}
 use Rattle.vd_noninter_protocols.specs.Told.{IsDealt}
-use Rattle.vd_views.specs.Sides.{AreKin, Both, IsOpenAt, OwnsInSight, OnlyOutside, AreBelow}
+use Rattle.vd_views.specs.Sides.{AreKin, Both, IsBoundWithin, IsOpenAt, OwnsInSight, OnlyOutside, AreBelow}
 use Rattle.vd_views.proofs.ViewsBackendsPlans.{one_outside}
 use Rattle.vd_views.specs.Explained.{IsFree, IsOpen, IsCoalition, plan_of, input_words, AgreeFor, InputsChooseBranches, OthersAreExplained, ExplainedBack, OwnWordsStay, AllButOneLook, OneOfTwoLooks}
+use Rattle.vd_views.proofs.Coalitions.{in_or_out}
 use Rattle.vd_views.proofs.Plain.{plan_plain}
 use Rattle.vd_views.proofs.Steps.{Static, Concluded}
 use Rattle.vd_views.proofs.ViewsProgramsBlocks.{Fitting, follows}
@@ -88,6 +89,24 @@ one_item : (xs : List ℕ) (v : ℕ) → length xs ≡ 1 → nth xs 0 ≡ v → 
 one_item [] v e f = absurd (omega arith)
 one_item (x ∷ []) v e f = ap (λ z. z ∷ []) f
 one_item (x ∷ y ∷ xs) v e f = absurd (omega arith)
+
+-- ---- who is bound
+
+-- of two hosts one is inside, so who is bound is
+bound_within : (K : Coalition) (n k : ℕ) → OnlyOutside K n k → (q : Proto) → IsOver n q → IsOpenAt K q → IsBoundWithin K q
+bound_within K n k only (Local h) over opens = tt
+bound_within K n k only (Rep set) over opens = tt
+bound_within K n k only (Commit u v) over opens = at (in_or_out K u.0) (in_or_out K v.0)
+  where
+    differ : u.0 ≡ v.0 → ⊥
+    differ same = true≢false (sym (and_left (not (nat_eq u.0 v.0)) (nat_lt u.0 8 && nat_lt v.0 8) over.ordered) ∙ ap not (eq-eqb u.0 v.0 same))
+
+    at : IsIn K u.0 ⊎ IsOut K u.0 → IsIn K v.0 ⊎ IsOut K v.0 → IsIn K u.0
+    at (inl m) other = m
+    at (inr o) (inl m) = opens m
+    at (inr o) (inr outside) = absurd (differ (only u.0 over.known.0 o ∙ sym (only v.0 over.known.1.0 outside)))
+bound_within K n k only (Add a b) over opens = tt
+bound_within K n k only (Xor a b) over opens = tt
 
 -- ---- a program
 
@@ -154,11 +173,12 @@ module _ (p : NormalForm) (l : Labels) (protocols : List Proto) (chosen : IsVali
     static : Static tree
     static = record { parts = first_ones 0 hosts; within = within_tree; tidy = tidy }
 
-    -- one host alone is outside, and nobody is bound
-    seen_by_others : ((x : ℕ) → has_back_end (proto_in protocols x) ≡ true) → (K : Coalition) (k : ℕ) → OnlyOutside K hosts k → OwnsInSight K (plan_of p protocols)
-    seen_by_others free K k only =
+    -- one host alone is outside
+    seen_by_others : (K : Coalition) → ((x : ℕ) → IsOpenAt K (proto_in protocols x)) → (k : ℕ) → OnlyOutside K hosts k → OwnsInSight K (plan_of p protocols)
+    seen_by_others K opens k only =
         subst (OwnsInSight K) (sym plan_is)
-        (one_outside K hosts k only (first_ones 0 hosts) (λ g i. let lt = first_below 0 hosts g i in omega (arith, lt)) tree tidy (plan_plain (length p.hosts) proto free b begin) within_tree)
+        (one_outside K hosts k only (first_ones 0 hosts) (λ g i. let lt = first_below 0 hosts g i in omega (arith, lt)) tree tidy
+        (plan_plain K (length p.hosts) proto (λ x. bound_within K hosts k only (proto_in protocols x) (can.over x) (opens x)) b begin) within_tree)
 
   -- ---- a deal with these inputs
 
@@ -328,11 +348,11 @@ all_declared p l protocols chosen =
     (first_ones 0 (length p.hosts), ((λ g i. let lt = first_below 0 (length p.hosts) g i in omega (arith, lt)), within_all p l protocols chosen [] (zero_deal (inputs_of [])) dealt_zeros))
 
 pub all_but_one_look : AllButOneLook
-all_but_one_look p l protocols free K k only = seen_by_others p l protocols free.chosen [] (zero_deal (inputs_of [])) dealt_zeros free.free K k only
+all_but_one_look p l protocols K opens k only = seen_by_others p l protocols opens.chosen [] (zero_deal (inputs_of [])) dealt_zeros K opens.opens k only
 
 pub one_of_two_looks : OneOfTwoLooks
-one_of_two_looks p l protocols free two h low =
-    ((λ g i. subst (λ n. g < n) (sym two) (at g (eqb_tells g h) i)), all_but_one_look p l protocols free (alone h) (1 - h) (λ g lt o. other g (subst (λ n. g < n) two lt) o))
+one_of_two_looks p l protocols h opens two low =
+    ((λ g i. subst (λ n. g < n) (sym two) (at g (eqb_tells g h) i)), all_but_one_look p l protocols (alone h) opens (1 - h) (λ g lt o. other g (subst (λ n. g < n) two lt) o))
   where
     at : (g : ℕ) → ((nat_eq g h ≡ true) × (g ≡ h)) ⊎ ((nat_eq g h ≡ false) × (g ≢ h)) → IsIn (alone h) g → g < 2
     at g (inl e) i = let same : g ≡ h = e.1 in omega (arith, low, same)

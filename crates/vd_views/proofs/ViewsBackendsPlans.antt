@@ -271,8 +271,8 @@ module _ (K : Coalition) (n k : ℕ) (only : OnlyOutside K n k) where
   not_both : (ps : List Part) → AreBelow n ps → (Concerns ps K → ⊥) → (a b : ℕ) → TakesPart ps a → TakesPart ps b → a ≢ b → ⊥
   not_both ps below out a b i j ne = ne (only a (below a i) (all_outside ps K out a i) ∙ sym (only b (below b j) (all_outside ps K out b j)))
 
-  gadget_alone : (ps : List Part) → AreBelow n ps → (Concerns ps K → ⊥) → (g : Gadget) → GadgetIsTidy g → IsPlain g → ActsAreWithin ps (acts_of_gadget g) → TakesNoOwn g
-  gadget_alone ps below out (Alone h a) tidy plain i = plain
+  gadget_alone : (ps : List Part) → AreBelow n ps → (Concerns ps K → ⊥) → (g : Gadget) → GadgetIsTidy g → IsPlain K g → ActsAreWithin ps (acts_of_gadget g) → TakesNoOwn g
+  gadget_alone ps below out (Alone h a) tidy plain i = plain (all_outside ps K out h.0 i.0)
   gadget_alone ps below out (Tells a said b heard) tidy plain i = tt
   gadget_alone ps below out (Shares a r b heard) tidy plain i = not_both ps below out a.0 b.0 i.0 i.1.0.1 tidy
   gadget_alone ps below out (BothShare a r heard b q heard_b) tidy plain i = not_both ps below out a.0 b.0 i.0 i.1.0 tidy.0
@@ -283,7 +283,7 @@ module _ (K : Coalition) (n k : ℕ) (only : OnlyOutside K n k) where
   below_inner : (ps qs : List Part) → AreBelow n ps → ((h : ℕ) → TakesPart qs h → TakesPart ps h) → AreBelow n qs
   below_inner ps qs below i h q = below h (i h q)
 
-  plan_alone : (ps : List Part) → AreBelow n ps → (Concerns ps K → ⊥) → (plan : Plan Gadget) → PlanIsTidy plan → PlanIsPlain plan → PlanIsWithin ps plan → PlanTakesNoOwn plan
+  plan_alone : (ps : List Part) → AreBelow n ps → (Concerns ps K → ⊥) → (plan : Plan Gadget) → PlanIsTidy plan → PlanIsPlain K plan → PlanIsWithin ps plan → PlanTakesNoOwn plan
   plan_alone ps below out Ends tidy plain within = tt
   plan_alone ps below out (Then g rest) tidy plain within = (gadget_alone ps below out g tidy.0 plain.0 within.0, plan_alone ps below out rest tidy.1 plain.1 within.1)
   plan_alone ps below out (Branch qs first other rest) tidy plain within =
@@ -294,7 +294,7 @@ module _ (K : Coalition) (n k : ℕ) (only : OnlyOutside K n k) where
       (plan_alone qs (below_inner ps qs below within.0) (inner K ps out qs within.0) body tidy.1.1.0 plain.0 tidy.0.1, plan_alone ps below out rest tidy.1.1.1 plain.1 within.1)
 
   -- own words are taken in sight of the others
-  pub one_outside : (ps : List Part) → AreBelow n ps → (plan : Plan Gadget) → PlanIsTidy plan → PlanIsPlain plan → PlanIsWithin ps plan → OwnsInSight K plan
+  pub one_outside : (ps : List Part) → AreBelow n ps → (plan : Plan Gadget) → PlanIsTidy plan → PlanIsPlain K plan → PlanIsWithin ps plan → OwnsInSight K plan
   one_outside ps below Ends tidy plain within = tt
   one_outside ps below (Then g rest) tidy plain within = one_outside ps below rest tidy.1 plain.1 within.1
   one_outside ps below (Branch qs first other rest) tidy plain within =

@@ -75,11 +75,11 @@ OwnWordsStay =
     (p : NormalForm) (l : Labels) (protocols : List Proto) → IsValidFor p l protocols → (K : Coalition) → OwnsInSight K (plan_of p protocols) → (second : InputWords) (t y : Tape) → Explains K (plan_of p protocols) t second y
     → (g i : ℕ) → y g OwnWords i ≡ t g OwnWords i
 
--- where one host alone is outside, and nobody is bound, own words are taken in sight of the others
+-- where one host alone is outside, own words are taken in sight of the others
 abbrev pub AllButOneLook : Type 0
-AllButOneLook = (p : NormalForm) (l : Labels) (protocols : List Proto) → IsFree p l protocols → (K : Coalition) (k : ℕ) → OnlyOutside K (length p.hosts) k → OwnsInSight K (plan_of p protocols)
+AllButOneLook = (p : NormalForm) (l : Labels) (protocols : List Proto) (K : Coalition) → IsOpen p l protocols K → (k : ℕ) → OnlyOutside K (length p.hosts) k → OwnsInSight K (plan_of p protocols)
 
 -- so it is of two hosts, where one looks alone
 abbrev pub OneOfTwoLooks : Type 0
-OneOfTwoLooks = (p : NormalForm) (l : Labels) (protocols : List Proto) → IsFree p l protocols → length p.hosts ≡ 2 → (h : ℕ) → h < 2
+OneOfTwoLooks = (p : NormalForm) (l : Labels) (protocols : List Proto) (h : ℕ) → IsOpen p l protocols (alone h) → length p.hosts ≡ 2 → h < 2
     → IsCoalition p (alone h) × OwnsInSight (alone h) (plan_of p protocols)

@@ -16,8 +16,8 @@ ghost use Rattle.vd_views.specs.AnyOrder.{SeesFrontsInAnyOrder};
 /// commitment: other inputs may agree on their own inputs, and on each word that comes to one of them in clear. Then there is one other valid deal, with the same parts
 /// for all of them and the same own words, under which they see of the other inputs what they saw of the first. Own words of hosts
 /// outside that are given to them stand where the second run gives some. It is computed gadget by gadget, along both runs.
-/// Explained back, the first deal comes again. Where own words are taken in sight of those that look, none moves. So it is,
-/// where nobody is bound, if one host alone is outside, and so if one of two looks.
+/// Explained back, the first deal comes again. Where own words are taken in sight of those that look, none moves. So it is
+/// where one host alone is outside, and where one of two looks.
 pub fn other_inputs_have_an_excuse()
     ensures explained { OthersAreExplained }
     ensures back { ExplainedBack }
