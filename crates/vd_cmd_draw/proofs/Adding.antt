@@ -6,7 +6,7 @@ use Rattle.vd_draw_rows.specs.declared.row.Row.{Row}
 use Rattle.vd_draw_layout.specs.declared.runs.Drawn.{Drawn}
 use Rattle.vd_draw_layout.specs.Layout.{with_row}
 use Rattle.vd_draw_layout.specs.Numbers.{plus, cost_of}
-use Rattle.vd_draw_layout.specs.Runs.{drawn_from, drawn_text, goes_on}
+use Rattle.vd_draw_layout.specs.Runs.{drawn_from, goes_on, heading_text}
 use Rattle.vd_cmd_draw.specs.Together.{DrawnCostsAddUp, with_drawn}
 
 grouped : (a b c : ℕ) → plus a (plus b c) ≡ plus (plus a b) c
@@ -32,7 +32,7 @@ from_there (next ∷ rest) row total number before cost = by_test (from_there re
     all = plus cost (cost_of row)
 
     drawn : List Drawn
-    drawn = record { number = number; cost = all; text = drawn_text before row } ∷ drawn_from (plus number 1) 0 0 (next ∷ rest)
+    drawn = record { number = number; cost = all; said = heading_text before row row.line } ∷ drawn_from (plus number 1) 0 0 (next ∷ rest)
 
     together : fold with_row (plus total all) (next ∷ rest) ≡ fold with_row (plus total cost) (row ∷ next ∷ rest)
     together = ap (λ t. fold with_row t (next ∷ rest)) (grouped total cost (cost_of row))
