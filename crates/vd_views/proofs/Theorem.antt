@@ -92,7 +92,7 @@ one_item (x ∷ y ∷ xs) v e f = absurd (omega arith)
 
 -- ---- who is bound
 
--- of two hosts one is inside, so who is bound is
+-- where one host alone is outside, of two hosts one is inside; so who is bound is inside
 bound_within : (K : Coalition) (n k : ℕ) → OnlyOutside K n k → (q : Proto) → IsOver n q → IsOpenAt K q → IsBoundWithin K q
 bound_within K n k only (Local h) over opens = tt
 bound_within K n k only (Rep set) over opens = tt
@@ -317,7 +317,7 @@ module _ (p : NormalForm) (l : Labels) (protocols : List Proto) (chosen : IsVali
 pub others_are_explained : OthersAreExplained
 others_are_explained p l protocols K opens together first second t dealt agree = it_explains p l protocols opens.chosen K opens.opens together first second t dealt agree
 
--- ---- who is bound
+-- ---- lists without commitments
 
 -- where nobody is bound, nobody outside is
 open_at : (K : Coalition) (q : Proto) → has_back_end q ≡ true → IsOpenAt K q
