@@ -8,8 +8,7 @@ use crate::command::{Command, CommandFault, FilesCommand, HostWords, NeedsKind};
 use crate::forms::{
     certify_of, check_of, choose_of, clear_of, column_of, compile_of, copies, deal_drawn,
     deal_from_file, deal_of, depends_of, draw_of, early_of, excuse_of, gen_of, influences_of,
-    influences_of, needs_of, needs_of, replay_of, replay_of, report_of, reveals_all, reveals_all,
-    reveals_one, reveals_one, run_of, run_of, trial_of, trial_of,
+    needs_of, replay_of, report_of, reveals_all, reveals_one, run_of, trial_of,
 };
 use crate::numbers::number_within;
 use std::alloc::Global;
