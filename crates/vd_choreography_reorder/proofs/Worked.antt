@@ -1,7 +1,7 @@
 -- The worked lines.
 use Rattle.std.proofs.Common.{refl}
 use Rattle.vd_execution.specs.Registers.{put}
-use Rattle.vd_choreography_reorder.specs.Examples.{DrawnWordsAreToldFirst, OpenedWordsStay, WordsGoSideBySide}
+use Rattle.vd_choreography_reorder.specs.Examples.{DrawnWordsAreToldTogether, OpenedWordsStay, WordsGoSideBySide}
 
 pub stays : OpenedWordsStay
 unfolding put
@@ -11,6 +11,6 @@ pub ahead : WordsGoSideBySide
 unfolding put
 ahead = refl
 
-pub drawn : DrawnWordsAreToldFirst
+pub drawn : DrawnWordsAreToldTogether
 unfolding put
 drawn = refl

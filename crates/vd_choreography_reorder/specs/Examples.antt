@@ -55,9 +55,9 @@ WordsGoSideBySide = early_order nothing_opened one_after_the_other ≡ side_by_s
 abbrev pub shared_in_turn : List Line
 shared_in_turn = own_at 0 2 ∷ packet 0 2 1 12 ∷ xor_at 0 20 8 2 ∷ own_at 0 3 ∷ packet 0 3 1 13 ∷ xor_at 0 21 9 3 ∷ []
 
-abbrev pub told_before_used : List Line
-told_before_used = own_at 0 2 ∷ own_at 0 3 ∷ packet 0 2 1 12 ∷ packet 0 3 1 13 ∷ xor_at 0 20 8 2 ∷ xor_at 0 21 9 3 ∷ []
+abbrev pub told_together : List Line
+told_together = own_at 0 2 ∷ xor_at 0 20 8 2 ∷ own_at 0 3 ∷ xor_at 0 21 9 3 ∷ packet 0 2 1 12 ∷ packet 0 3 1 13 ∷ []
 
--- The words are told side by side, each before it is used.
-abbrev pub DrawnWordsAreToldFirst : Type 0
-DrawnWordsAreToldFirst = early_order nothing_opened shared_in_turn ≡ told_before_used
+-- The words are told side by side, so that they share a packet.
+abbrev pub DrawnWordsAreToldTogether : Type 0
+DrawnWordsAreToldTogether = early_order nothing_opened shared_in_turn ≡ told_together

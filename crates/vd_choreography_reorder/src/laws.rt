@@ -1,6 +1,6 @@
 //! Laws of the pass. Nothing is computed here.
 
-ghost use Rattle.vd_choreography_reorder.specs.Examples.{DrawnWordsAreToldFirst, OpenedWordsStay, WordsGoSideBySide};
+ghost use Rattle.vd_choreography_reorder.specs.Examples.{DrawnWordsAreToldTogether, OpenedWordsStay, WordsGoSideBySide};
 ghost use Rattle.vd_choreography_reorder.specs.Order.{CodeThatIsBroughtForwardRunsOn, OrderIsKept};
 ghost use Rattle.vd_choreography_reorder.specs.Passing.{ArrangedLinesAreBroughtForward};
 ghost use Rattle.vd_choreography_reorder.specs.Sorting.{AnswersComeFirst, LinesStandByRank, RanksAreApart, RoundsAreApart, SortedCodeIsBroughtForward};
@@ -46,10 +46,10 @@ pub fn answers_come_first()
     ensures { AnswersComeFirst }
 {}
 
-/// Worked lines: masked words of two gadgets go side by side, a drawn word is told before it is used, and a word that is opened stays
+/// Worked lines: masked words of two gadgets go side by side, so do drawn words of two sharings, and a word that is opened stays
 /// behind the answer that it stood behind.
 pub fn worked_lines()
     ensures stays { OpenedWordsStay }
     ensures ahead { WordsGoSideBySide }
-    ensures drawn { DrawnWordsAreToldFirst }
+    ensures drawn { DrawnWordsAreToldTogether }
 {}

@@ -37,3 +37,4 @@ mod Shown
 mod Leaving
 mod Masked
 mod BlindPackets
+mod GoAhead

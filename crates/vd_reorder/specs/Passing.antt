@@ -1,5 +1,5 @@
 -- The pass over the text of a code.
-use Rattle.std.specs.Prelude.{◌≡◌, ℕ, zero, suc, ◌-◌, Bool, true, false, ◌&&◌, if◌then◌else◌, List, [], ◌∷◌, ◌++◌, take, drop, get_or, replicate}
+use Rattle.std.specs.Prelude.{◌≡◌, ℕ, zero, suc, ◌-◌, ◌≤◌, Bool, true, false, ◌&&◌, if◌then◌else◌, List, [], ◌∷◌, ◌++◌, take, drop, get_or, replicate}
 use Rattle.vd_base.specs.declared.ids.HostId.{HostId}
 use Rattle.vd_execution.specs.declared.instructions.Reg.{Reg}
 use Rattle.vd_execution.specs.declared.instructions.Action.TheVariants as action
@@ -14,7 +14,7 @@ use Rattle.vd_reorder.specs.Packets.{stays_by}
 
 -- Each instruction is passed by at most so many packets, so that links need room for no more.
 abbrev pub window : ℕ
-window = 16
+window = 512
 
 -- the code that the careful pass makes of a host's code, where packets with these registers are open
 abbrev pub hastened_code : List Reg → Code → Code
@@ -136,7 +136,7 @@ pub record IsHastenedText (opened : List Reg) (new : List Instr) (c : Code) : Ty
   pub nested : IsCodeOf new (hastened_code opened c)
   pub careful : IsCarefullyHastened (stays_by opened) c (hastened_code opened c)
 
--- Where packets may go ahead of what waits for a peer, sixteen do.
-abbrev pub SixteenPacketsPass : Type 0
-SixteenPacketsPass = (from to : HostId) (awaited sent : List Reg)
-    → hastened_text (λ x y. true) window (instr.Recv from awaited ∷ replicate 16 (instr.Send to sent)) ≡ replicate 16 (instr.Send to sent) ++ instr.Recv from awaited ∷ []
+-- Where packets may go ahead of what waits for a peer, up to 512 do.
+abbrev pub PacketsGoAhead : Type 0
+PacketsGoAhead = (from to : HostId) (awaited sent : List Reg) (n : ℕ) → n ≤ 512
+    → hastened_text (λ x y. true) window (instr.Recv from awaited ∷ replicate n (instr.Send to sent)) ≡ replicate n (instr.Send to sent) ++ instr.Recv from awaited ∷ []

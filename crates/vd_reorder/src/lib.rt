@@ -16,7 +16,7 @@ mod testing;
 pub use acts::{both_may, is_simple};
 pub use choreography_commuting::{neighbours_may_turn, turned_code_tells_the_same};
 pub use packets::opened_in;
-pub use passing::{hasten_code, sixteen_packets_pass, texts_are_passed};
+pub use passing::{hasten_code, packets_go_ahead, texts_are_passed};
 pub use registers::{Row, Rows, any_among, have_common, read_by, written_by};
 pub use reorder_buffers::room_for_the_window_is_enough;
 pub use reorder_histories::{hastened_histories_are_schedules, hastened_hosts_are_never_later};

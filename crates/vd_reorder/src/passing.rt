@@ -6,14 +6,14 @@ ghost use Rattle.vd_execution.specs.Text.{IsCodeOf};
 ghost use Rattle.vd_reorder.specs.Careful.{careful};
 ghost use Rattle.vd_reorder.specs.Packets.{stays_by};
 ghost use Rattle.vd_reorder.specs.Passing as passing;
-ghost use Rattle.vd_reorder.specs.Passing.{IsHastenedText, SixteenPacketsPass, TextsArePassed, hastened_by, hastened_text, risen, sunk_first, window};
+ghost use Rattle.vd_reorder.specs.Passing.{IsHastenedText, PacketsGoAhead, TextsArePassed, hastened_by, hastened_text, risen, sunk_first, window};
 
 use crate::testing::may_pass;
 use vd_base::Items;
 use vd_execution::{Action, Instr, Reg};
 
 /// How many packets may pass an instruction.
-const WINDOW: u32 = 16;
+const WINDOW: u32 = 512;
 
 /// Whether an instruction may be passed, where so many packets may still pass.
 #[tactic(auto, using(crate::proofs::Room::room_left))]
@@ -167,7 +167,7 @@ fn pass(code: Items<Instr>, opened: &[Reg]) -> Items<Instr>
 }
 
 /// The code, with each packet that opens nothing brought forward as far as what it needs allows, and no instruction passed by more than
-/// 16 packets. Draws of own words give way to what stands behind them. All else stays in its order.
+/// 512 packets. Draws of own words give way to what stands behind them. All else stays in its order.
 pub fn hasten_code(code: Items<Instr>, opened: &[Reg]) -> Items<Instr>
     ensures text { result ≡ hastened_by opened.now code }
     ensures code { (nested : Code) → IsCodeOf code nested → IsHastenedText opened.now result nested }
@@ -180,7 +180,7 @@ pub fn texts_are_passed()
     ensures { TextsArePassed }
 {}
 
-/// Where packets may go ahead of what waits for a peer, sixteen do.
-pub fn sixteen_packets_pass()
-    ensures { SixteenPacketsPass }
+/// Where packets may go ahead of what waits for a peer, up to 512 do.
+pub fn packets_go_ahead()
+    ensures { PacketsGoAhead }
 {}
