@@ -1,4 +1,4 @@
-//! The commands `needs` and `rounds`: how much to deal for a source, what each host takes, and what it tells each other one.
+//! The commands `needs` and `rounds`: how much to deal for a source, what each host takes, and what it sends to each other one.
 #![tactic(auto)]
 
 mod laws;

@@ -4,20 +4,20 @@ ghost use Rattle.vd_rounds.specs.Clocks.{RoundsAreReadOff};
 ghost use Rattle.vd_rounds.specs.Loads.{BytesAreCounted};
 ghost use Rattle.vd_rounds.specs.TallyLaws.{HostsTellWithin, SchedulesTellWithin};
 
-/// Whatever words a host is given, it tells each other one at most what is counted of its code where of each branch the block that tells
-/// more is; and once it has ended, at least what is counted where the block that tells less is. So it is under every schedule too.
+/// On any words that it receives, a host sends another one at most the packets and words counted with the greater block of each branch. Once
+/// it has ended, it has sent at least the ones counted with the smaller block. Every schedule of all hosts has both bounds too.
 pub fn hosts_tell_within()
     ensures alone { HostsTellWithin }
     ensures schedules { SchedulesTellWithin }
 {}
 
-/// Along the joint run of each code, in which a packet comes one round after it was sent, no host's clock ends above what is read off the
-/// code where of each branch the later clock counts, or below what is read off where the earlier one does.
+/// In the joint run a packet arrives one round after it was sent. No clock ends above the count with the later block of each branch, or
+/// below the count with the earlier one.
 pub fn rounds_are_read_off()
     ensures { RoundsAreReadOff }
 {}
 
-/// A greeting and packets have as many bytes as is counted of their packets and words.
+/// The bytes of a greeting and of packets are the number counted from their packets and words.
 pub fn bytes_are_counted()
     ensures { BytesAreCounted }
 {}

@@ -1,4 +1,4 @@
-//! What a run costs, read off the codes of its hosts: how many packets, words and bytes each tells each other one.
+//! What a run costs, counted in the codes of its hosts: the packets, words and bytes that each sends to each other one.
 #![tactic(auto)]
 
 mod laws;

@@ -114,8 +114,8 @@ pub record Keeps (words : List (List ℕ)) (o : Around) (status : Status) : Type
   pub influence : KeepsInfluence words o.files.0 o.out.0 o.out.1 status
   -- With status 0 `needs` has printed what the hosts of a source take at its choice. Every consistent deal of the printed sizes
   -- suffices for all inputs, under every schedule. If both blocks of each branch take equally many items, each deal that suffices has
-  -- these sizes. Of the program of a host it has printed what that host takes at most. No host
-  -- tells another more packets or words than `rounds` prints.
+  -- these sizes. Of the program of a host it has printed what that host takes at most. `rounds` has printed how many packets, words and
+  -- bytes each host sends each other one: under every schedule it sends no more, and no fewer than the least if it has ended.
   pub needs : KeepsNeeds words o.files.0 o.out.0 o.out.1 status
   -- With status 0 `labels` has printed a line for each slot, with its label under the least labelling: it satisfies all flow rules and
   -- checks, and every labelling that does is above it.
