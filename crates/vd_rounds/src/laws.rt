@@ -4,8 +4,8 @@ ghost use Rattle.vd_rounds.specs.Clocks.{RoundsAreReadOff};
 ghost use Rattle.vd_rounds.specs.Loads.{BytesAreCounted};
 ghost use Rattle.vd_rounds.specs.TallyLaws.{HostsTellWithin, SchedulesTellWithin};
 
-/// On any words that it receives, a host sends another one at most the packets and words counted with the greater block of each branch. Once
-/// it has ended, it has sent at least the ones counted with the smaller block. Every schedule of all hosts has both bounds too.
+/// On any words that it receives, a host sends another one at most the packets and words counted with the greater block of each branch.
+/// Once it has ended, it has sent at least the ones counted with the smaller block. Every schedule of all hosts has both bounds too.
 pub fn hosts_tell_within()
     ensures alone { HostsTellWithin }
     ensures schedules { SchedulesTellWithin }
