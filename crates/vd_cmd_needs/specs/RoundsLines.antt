@@ -18,7 +18,8 @@ range_field word least most = word ++ (if nat_eq least most then number_field mo
 abbrev pub traffic_fields : Traffic → List ℕ
 traffic_fields t =
     range_field (codes " packets") t.least.packets t.most.packets ++ range_field (codes " words") t.least.words t.most.words
-    ++ range_field (codes " bytes") (plain_bytes t.least) (plain_bytes t.most) ++ range_field (codes " sealed") (sealed_bytes t.least) (sealed_bytes t.most)
+    ++ range_field (codes " bytes") (plain_bytes t.least) (plain_bytes t.most)
+    ++ range_field (codes " sealed") (sealed_bytes t.least) (sealed_bytes t.most)
 
 -- the line of a link
 abbrev pub link_line : (from to : List ℕ) → Traffic → List ℕ

@@ -30,8 +30,8 @@ use Rattle.vd_deal_needs.specs.Enough.{AreEnough, AreLeast, AreMade, sizes_for}
 use Rattle.vd_cmd_needs.specs.Needing.{needs_text, program_text}
 
 -- What is printed of a program is what its hosts take, or tell, at its choice of protocols. A deal of the sizes that are printed suffices
--- for all inputs under every schedule, and where no branch takes differently no smaller one does. Under every schedule no host tells another
--- more packets or words than are printed, and one that has ended told no fewer than the least of them.
+-- for all inputs under every schedule, and where no branch takes differently no smaller one does. Under every schedule no host tells
+-- another more packets or words than are printed, and one that has ended told no fewer than the least of them.
 pub record IsNeedsOf (kind : NeedsKind) (program : NormalForm) (printed : List ℕ) : Type 0 where
   pub assignment : Assignment
   pub selected : IsSelected program assignment

@@ -31,7 +31,8 @@ clocks_along t Done w c = c
 clocks_along t (Do h a rest) w c = clocks_along t rest (after_do t h a w) c
 clocks_along t (Msg from said to heard rest) w c = clocks_along t rest (after_msg from said to heard w) (came from to c)
 clocks_along t (If ps first other rest) w c =
-    clocks_along t rest (if is_other ps w then joint t other w else joint t first w) (if is_other ps w then clocks_along t other w c else clocks_along t first w c)
+    clocks_along t rest (if is_other ps w then joint t other w else joint t first w)
+    (if is_other ps w then clocks_along t other w c else clocks_along t first w c)
 clocks_along t (For ps count body rest) w c =
     let end = turns (turned (joint t body) (clocks_along t body) (turn_begun ps)) count 0 (w, c) in clocks_along t rest end.0 end.1
 

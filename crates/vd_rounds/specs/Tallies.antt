@@ -53,7 +53,8 @@ pub record Counts (t : Tally) (count : ℕ) (blocks : List ToldBehind) (so_far :
 
 -- where this is told by what was read, so it is with one instruction more, unless memory runs out
 abbrev pub CountsOn : {E : Type 0} → Tally → Instr → ℕ → List ToldBehind → List ToldBehind → Result ℕ E → Type 0
-CountsOn t i count old new result = (x y : Reading) → Counts t count old x → with_instr i x.code x.blocks ≡ Some y → IfOk result (λ n. Counts t n new y)
+CountsOn t i count old new result =
+    (x y : Reading) → Counts t count old x → with_instr i x.code x.blocks ≡ Some y → IfOk result (λ n. Counts t n new y)
 
 -- ---- whole codes
 

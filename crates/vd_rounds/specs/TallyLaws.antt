@@ -27,11 +27,17 @@ least_of measure peer = record { bound = Least; measure = measure; peer = peer }
 -- less than where the block that tells less is. So where both counts are the same, it has told that.
 pub record TellsWithin (code : Code) (l : Local) : Type 0 where
   pub most : (measure : Measure) (peer : HostId) → size_of measure (l.sent peer.0) ≤ told (most_of measure peer) code
-  pub least : (measure : Measure) (peer : HostId) → l.state.pending ≡ Finished → told (least_of measure peer) code ≤ size_of measure (l.sent peer.0)
+  pub least : (measure : Measure) (peer : HostId) → l.state.pending ≡ Finished
+      → told (least_of measure peer) code ≤ size_of measure (l.sent peer.0)
 
 -- a host at its start, which has this code to do
 abbrev pub alone : Code → Local
-alone code = record { state = record { pending = code; registers = λ r. 0; cursors = λ s. 0 }; printed = []; sent = λ p. []; taken = λ p. 0 }
+alone code = record {
+  state = record { pending = code; registers = λ r. 0; cursors = λ s. 0 };
+  printed = [];
+  sent = λ p. [];
+  taken = λ p. 0;
+}
 
 -- So it is whatever words a host is given, step by step,
 abbrev pub HostsTellWithin : Type 0

@@ -88,7 +88,8 @@ fn size(tally: Tally, peer: HostId, registers: &[Reg]) -> u64
 
 /// Leaves a block whose end was read. Says what is told behind it.
 fn pop_end(blocks: &mut Items<ToldBehind>) -> u64
-    ensures { (outer : List ToldBehind) (rest : ℕ) → blocks.old ≡ outer ++ ToldBehind.End rest ∷ [] → (result ≡ rest) × (blocks.new ≡ outer) }
+    ensures { (outer : List ToldBehind) (rest : ℕ) → blocks.old ≡ outer ++ ToldBehind.End rest ∷ []
+        → (result ≡ rest) × (blocks.new ≡ outer) }
 {
     match blocks.pop() {
         Some(ToldBehind::End(rest)) => rest,
