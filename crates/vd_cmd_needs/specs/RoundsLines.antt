@@ -5,15 +5,18 @@ use Rattle.vd_execution.specs.declared.instructions.Instr.{Instr}
 use Rattle.vd_execution.specs.Code.{Code}
 use Rattle.vd_deal_needs.specs.Counted.{code_in}
 use Rattle.vd_hostcode.specs.declared.host_text.program.HostProgram.{HostProgram}
-use Rattle.vd_report.specs.Lines.{number_field}
 use Rattle.vd_report.specs.ReportLines.{texts_below}
 use Rattle.vd_rounds.specs.declared.loads.Traffic.{Traffic}
 use Rattle.vd_rounds.specs.Loads.{plain_bytes, sealed_bytes, traffic_of}
 use Rattle.vd_cmd_needs.specs.Lines.{name_at}
 
+-- the least of two counts, if they differ
+abbrev pub least_part : (least most : ℕ) → List ℕ
+least_part least most = if nat_eq least most then [] else decimal least ++ codes ".."
+
 -- a word and a count: one number, or where a run may have less or more, the least and the greatest
 abbrev pub range_field : (word : List ℕ) → (least most : ℕ) → List ℕ
-range_field word least most = word ++ (if nat_eq least most then number_field most else number_field least ++ codes ".." ++ decimal most)
+range_field word least most = word ++ 32 ∷ least_part least most ++ decimal most
 
 abbrev pub traffic_fields : Traffic → List ℕ
 traffic_fields t =

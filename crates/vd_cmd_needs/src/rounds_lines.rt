@@ -14,16 +14,24 @@ use vd_execution::Instr;
 use vd_report::name_of;
 use vd_rounds::{Traffic, plain_bytes, sealed_bytes, traffic_to};
 
+/// Puts the least of two counts at the end, if they differ.
+fn push_least(text: &mut Bytes, least: u64, most: u64) -> Result<(), AllocError>
+    ensures { OnOk result (text.new ≡ text.old ++ lines.least_part least most) }
+{
+    if least != most {
+        text.extend_from_slice(Buffer::new().format(least).as_bytes())?;
+        text.extend_from_slice(b"..")?;
+    }
+    Ok(())
+}
+
 /// Puts a word and a count at the end: one number, or where a run may have less or more, the least and the greatest.
 fn push_range(text: &mut Bytes, word: &[u8], least: u64, most: u64) -> Result<(), AllocError>
     ensures { OnOk result (text.new ≡ text.old ++ lines.range_field word.now least most) }
 {
     text.extend_from_slice(word)?;
     text.push(b' ')?;
-    if least != most {
-        text.extend_from_slice(Buffer::new().format(least).as_bytes())?;
-        text.extend_from_slice(b"..")?;
-    }
+    push_least(text, least, most)?;
     text.extend_from_slice(Buffer::new().format(most).as_bytes())
 }
 
