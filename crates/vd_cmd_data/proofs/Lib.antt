@@ -16,3 +16,4 @@ mod Laying
 mod Reported
 mod ReportRefusing
 mod RunsRead
+mod WaysNamed

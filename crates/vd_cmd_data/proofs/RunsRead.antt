@@ -1,5 +1,5 @@
 -- What a host prints, and its line in the report of a replay, are read back as its words.
-use Rattle.std.proofs.Common.{◌≡◌, ℕ, zero, suc, ◌+◌, ◌-◌, ◌<◌, ◌≤◌, ◌^◌, Bool, true, false, ◌&&◌, List, [], ◌∷◌, ◌++◌, length, map, take, drop, Option, Some, None, Result, Ok, Err, nat_le, if◌then◌else◌, refl, sym, ap, ◌∙◌, subst, arith, append-nil, append_assoc, true≢false}
+use Rattle.std.proofs.Common.{◌≡◌, ℕ, zero, suc, ◌+◌, ◌-◌, ◌<◌, ◌≤◌, ◌^◌, Bool, true, false, ◌&&◌, List, [], ◌∷◌, ◌++◌, length, map, take, drop, Option, Some, None, Result, Ok, Err, nat_le, if◌then◌else◌, refl, sym, ap, ◌∙◌, subst, arith, append-nil, append_assoc, length-append}
 use Rattle.std.specs.Prelude.{◌==◌, codes, decimal, flat_map, is_none, nat_lt, slice_index_or}
 use Rattle.std.specs.Str.{bytes_eq}
 use Rattle.std.proofs.lemmas.Bool.{and_from, le-leb, lt-ltb}
@@ -43,15 +43,22 @@ are_numbers file words are = numbers_from file words 1 are
 
 -- ---- the last of a list
 
+at_end : {A : Type 0} (list : List A) (a d : A) → slice_index_or (list ++ a ∷ []) (length list) d ≡ a
+at_end [] a d = refl
+at_end (b ∷ list) a d = at_end list a d
+
+at_front : {A : Type 0} (list : List A) (a : A) → take (length list) (list ++ a ∷ []) ≡ list
+at_front [] a = refl
+at_front (b ∷ list) a = ap (λ (l : List _). b ∷ l) (at_front list a)
+
+one_less : {A : Type 0} (list : List A) (a : A) → length (list ++ a ∷ []) - 1 ≡ length list
+one_less list a = let more = length-append list (a ∷ []) in omega (arith, more)
+
 last_is : {A : Type 0} (list : List A) (a d : A) → slice_index_or (list ++ a ∷ []) (length (list ++ a ∷ []) - 1) d ≡ a
-last_is [] a d = refl
-last_is (b ∷ []) a d = refl
-last_is (b ∷ c ∷ list) a d = last_is (c ∷ list) a d
+last_is list a d = ap (λ (k : ℕ). slice_index_or (list ++ a ∷ []) k d) (one_less list a) ∙ at_end list a d
 
 front_is : {A : Type 0} (list : List A) (a : A) → take (length (list ++ a ∷ []) - 1) (list ++ a ∷ []) ≡ list
-front_is [] a = refl
-front_is (b ∷ []) a = refl
-front_is (b ∷ c ∷ list) a = ap (λ (l : List _). b ∷ l) (front_is (c ∷ list) a)
+front_is list a = ap (λ (k : ℕ). take k (list ++ a ∷ [])) (one_less list a) ∙ at_front list a
 
 -- ---- what a host prints
 
@@ -150,7 +157,9 @@ not_both false b e = refl
 line_other : (host words : List ℕ) → AreWords words → length words < 2 ^ 32 → is_whole (line_split host words) ≡ false
 line_other host words are few =
     let last = last_number (length words) words few are in
-    let test = ap (λ (w : List ℕ). bytes_eq w (codes "ended")) last.2 ∙ differs last.0 last.1 (bytes_eq (decimal last.0) (codes "ended")) refl in
+    let behind : length (line_split host words) - 1 ≡ suc (suc (length (map decimal words))) = omega arith in
+    let found = ap (λ (k : ℕ). slice_index_or (line_split host words) k []) behind ∙ last.2 in
+    let test = ap (λ (w : List ℕ). bytes_eq w (codes "ended")) found ∙ differs last.0 last.1 (bytes_eq (decimal last.0) (codes "ended")) refl in
     not_both (is_begun (line_split host words)) (bytes_eq (slice_index_or (line_split host words) (length (line_split host words) - 1) []) (codes "ended")) test
 
 same_name : (name : List ℕ) → bytes_eq name name ≡ true

@@ -9,3 +9,4 @@ pub mod Readings
 pub mod ReportText
 pub mod Reporting
 pub mod RunsRead
+pub mod WaysNamed

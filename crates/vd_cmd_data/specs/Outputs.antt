@@ -78,13 +78,14 @@ turn_places body (suc left) turn turns around =
     all_places body (deeper turns turn) (around_first around (times left (all_count body)))
     ++ turn_places body left (turn + 1) turns (around_rest around (all_count body))
 
-module _ (source : List ℕ) (slots : List Slot) (host : HostId) where
-  abbrev pub place_name : (turns : List ℕ) → SlotId → (offset : ℕ) → List ℕ
-  place_name turns slot offset = output_name source slots slot offset ++ turns
+-- the name of an output, and the turns in which it comes
+abbrev pub place_name : (source : List ℕ) → List Slot → (turns : List ℕ) → SlotId → (offset : ℕ) → List ℕ
+place_name source slots turns slot offset = output_name source slots slot offset ++ turns
 
+module _ (source : List ℕ) (slots : List Slot) (host : HostId) where
   abbrev pub output_places : (turns : List ℕ) → Around → SlotId → (to : HostId) → (offset : ℕ) → List Place
   output_places turns around slot to offset =
-      if same_host to host then record { name = place_name turns slot offset; is_bool = is_truth slots slot; around = around } ∷ [] else []
+      if same_host to host then record { name = place_name source slots turns slot offset; is_bool = is_truth slots slot; around = around } ∷ [] else []
 
   abbrev pub nothing : Brings
   nothing = record { count = exactly 0; places = λ turns around. [] }

@@ -17,4 +17,4 @@ mod spans;
 mod table;
 
 pub use column_command::{column, columns_tell};
-pub use report_command::{report, reports_tell, runs_are_read};
+pub use report_command::{report, reports_tell, runs_are_read, ways_are_named};

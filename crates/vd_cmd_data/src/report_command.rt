@@ -3,6 +3,7 @@
 ghost use Rattle.std.specs.Prelude.{◌≡◌, [], IfOk};
 ghost use Rattle.vd_cmd_data.specs.Reporting.{ExecutesBytes, ExecutesFile, ExecutesProgram, ExecutesReport, ReportsTell, named_words, printed_as, readings_in};
 ghost use Rattle.vd_cmd_data.specs.RunsRead.{RunsAreRead};
+ghost use Rattle.vd_cmd_data.specs.WaysNamed.{WaysAreNamed};
 ghost use Rattle.vd_cmd_plan.specs.Plans.{Checks, Computes, ended};
 
 use crate::outputs::{outputs_count, outputs_of};
@@ -135,4 +136,9 @@ pub fn reports_tell()
 /// What `host` prints, and the line of a host that has ended in the report of a replay, are read back as the words of that host.
 pub fn runs_are_read()
     ensures { RunsAreRead }
+{}
+
+/// Whatever way the branches of a program go, each word that a host is told then has its output among those by which `report` names it.
+pub fn ways_are_named()
+    ensures { WaysAreNamed }
 {}
