@@ -18,8 +18,11 @@ unfoldable pub begin_text : List ℕ
 begin_text = codes "<svg xmlns=\"http://www.w3.org/2000/svg\" xmlns:xlink=\"http://www.w3.org/1999/xlink\" version=\"1.1\""
 
 -- all of it is shown, so it can be scaled
+abbrev pub pair_text : ℕ → ℕ → List ℕ
+pair_text width height = number_text width ++ codes " " ++ number_text height
+
 abbrev pub view_text : ℕ → ℕ → List ℕ
-view_text width height = codes " viewBox=\"0 0 " ++ number_text width ++ codes " " ++ number_text height ++ codes "\""
+view_text width height = codes " viewBox=\"0 0 " ++ pair_text width height ++ codes "\""
 
 abbrev pub head_text : ℕ → ℕ → List ℕ
 head_text width height = begin_text ++ attribute (codes " width") width ++ attribute (codes " height") height ++ view_text width height ++ codes ">\n" ++ look_text

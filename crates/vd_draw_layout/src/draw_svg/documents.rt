@@ -99,14 +99,21 @@ fn begin() -> &'static str
     BEGIN
 }
 
+/// Puts two numbers at the end.
+fn push_pair(text: &mut Bytes, width: u64, height: u64) -> Result<(), AllocError>
+    ensures { OnOk result (text.new ≡ text.old ++ documents.pair_text width height) }
+{
+    push_number(text, width)?;
+    text.extend_from_slice(b" ")?;
+    push_number(text, height)
+}
+
 /// Puts what of a drawing is shown at the end, which is all: so it can be scaled.
 fn push_view(text: &mut Bytes, width: u64, height: u64) -> Result<(), AllocError>
     ensures { OnOk result (text.new ≡ text.old ++ documents.view_text width height) }
 {
     text.extend_from_slice(b" viewBox=\"0 0 ")?;
-    push_number(text, width)?;
-    text.extend_from_slice(b" ")?;
-    push_number(text, height)?;
+    push_pair(text, width, height)?;
     text.extend_from_slice(b"\"")
 }
 
