@@ -76,12 +76,12 @@ module _ (hosts names : List (List ℕ)) where
             (refused (λ first. behind group (host_before first rest)) (λ s. refl) (as_host hosts (get_or names place [])) status checks.err);
       }
 
-  pub all_named : (place : ℕ) (group : List HostId) → length names ≤ place → Begun place group → Checks (as_hosts hosts names) (Ok group)
+  ended : (place : ℕ) → length names ≤ place → as_hosts hosts (drop place names) ≡ Ok []
   unfolding as_hosts
-  all_named place group over so_far = record { ok = so_far ∙ ap (behind group) (end place over) ∙ none_behind group; err = tt }
-    where
-      end : (place : ℕ) → length names ≤ place → as_hosts hosts (drop place names) ≡ Ok []
-      end place over = ap (as_hosts hosts) (drop_all place names over)
+  ended place over = ap (as_hosts hosts) (drop_all place names over)
+
+  pub all_named : (place : ℕ) (group : List HostId) → length names ≤ place → Begun place group → Checks (as_hosts hosts names) (Ok group)
+  all_named place group over so_far = record { ok = so_far ∙ ap (behind group) (ended place over) ∙ none_behind group; err = tt }
 
 -- each of the hosts has its name
 abbrev pub AreNamed : (hosts names : List (List ℕ)) → List HostId → Type 0

@@ -130,10 +130,17 @@ fn in_some(alloc: Global, names: &Names, sets: &[HostSet]) -> Result<Items<HostI
 fn push_in_some(list: &mut Items<HostId>, sets: &[HostSet], host: HostId) -> Result<(), AllocError>
     ensures { OnOk result (list.new ≡ list.old ++ (if in_some sets.now host then host ∷ [] else [])) }
 {
-    if sets.iter().any(|set| set.has(host)) {
+    if some_has(sets, host) {
         list.push(host)?;
     }
     Ok(())
+}
+
+/// Whether some of these sets has the host.
+fn some_has(sets: &[HostSet], host: HostId) -> bool
+    ensures { result ≡ in_some sets.now host }
+{
+    sets.iter().any(|set| set.has(host))
 }
 
 /// Puts the names of these hosts at the end, with commas between them.
