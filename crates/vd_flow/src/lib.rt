@@ -1,4 +1,4 @@
-//! Whether a labelling keeps every rule and every check of a system.
+//! Whether a labelling keeps every rule and every check of a system, and by which rules a check fails.
 #![tactic(auto)]
 
 ghost use Rattle.std.specs.Prelude.{◌≡◌, ◌↔◌, All, IfErr, IsOk, IsTrue};
@@ -6,10 +6,13 @@ ghost use Rattle.vd_constraints.specs.Satisfies.{HoldsCheck, HoldsRule, IsBoundO
 ghost use Rattle.vd_constraints.specs.Systems.{IsLabelOver};
 ghost use Rattle.vd_flow.specs.Faults.{IsFaultOf};
 
+mod ways;
+
 use std::error::Error;
 use std::fmt;
 use vd_constraints::{Bound, Check, Labels, Lower, System};
 use vd_formula::Label;
+pub use ways::{Step, way};
 
 /// Why a labelling is refused.
 #[derive(Clone, Copy, PartialEq, Eq, Debug)]
