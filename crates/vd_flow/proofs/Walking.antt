@@ -1,6 +1,6 @@
 -- The walk back from a state: what was walked leads from here to there.
 use Rattle.std.proofs.Common.{◌≡◌, ◌≢◌, List, [], ◌∷◌, ◌++◌, reverse, refl, sym, ap, ◌∙◌, subst}
-use Rattle.std.specs.Prelude.{All, Contains}
+use Rattle.std.specs.Prelude.{All}
 use Rattle.std.proofs.lemmas.List.{reverse-append}
 use Rattle.std.proofs.lemmas.List.Elements.{All-nil, All-cons}
 use Rattle.vd_constraints.specs.declared.system.Part.{Part}
@@ -12,32 +12,29 @@ use Rattle.vd_flow.specs.declared.ways.State.{State}
 use Rattle.vd_flow.specs.declared.ways.Found.{Found}
 use Rattle.vd_flow.specs.declared.ways.Ground.{Ground}
 use Rattle.vd_flow.specs.declared.ways.Ground.TheVariants.{Constant, Kept}
-use Rattle.vd_flow.specs.Ways.{IsState, IsWay, Keeps, Leads, Nothing}
+use Rattle.vd_flow.specs.Ways.{IsOfRules, IsState, IsWay, Keeps, Leads, Nothing}
 use Rattle.vd_flow.specs.Walks.{IsEnd, IsFound, IsGround, IsWalk}
-
-abbrev IsAmong : List Lower → Step → Type 0
-IsAmong rules step = Contains rules step.rule
 
 -- the steps, from the last to the first, lead from this state to the end
 pub record IsUnderWay (rules : List Lower) (end state : State) (steps : List Step) : Type 0 where
-  pub among : All (λ (step : Step). Contains rules step.rule) (reverse steps)
+  pub among : All (IsOfRules rules) (reverse steps)
   pub leads : Leads (IsState state) (reverse steps) end.part end.group
 
 pub begun : (rules : List Lower) (end : State) (steps : List Step) → steps ≡ [] → IsUnderWay rules end end steps
-begun rules end steps none = subst (IsUnderWay rules end end) (sym none) (record { among = All-nil (IsAmong rules); leads = record { part_is = refl; group_is = refl } })
+begun rules end steps none = subst (IsUnderWay rules end end) (sym none) (record { among = All-nil (IsOfRules rules); leads = record { part_is = refl; group_is = refl } })
 
 -- ---- one step back
 
 module _ (rules : List Lower) (end state : State) (found : Found) (is : IsFound rules state found) (steps now : List Step) (under_way : IsUnderWay rules end state steps) where
   abbrev step : Step
-  step = record { rule = found.rule; group = state.group }
+  step = record { number = found.number; rule = found.rule; group = state.group }
 
   module _ (pushed : now ≡ steps ++ step ∷ []) where
     in_front : reverse now ≡ step ∷ reverse steps
     in_front = ap (λ (list : List Step). reverse list) pushed ∙ reverse-append steps (step ∷ [])
 
-    all_among : All (IsAmong rules) (reverse now)
-    all_among = subst (All (IsAmong rules)) (sym in_front) (All-cons (IsAmong rules) step (reverse steps) is.among under_way.among)
+    all_among : All (IsOfRules rules) (reverse now)
+    all_among = subst (All (IsOfRules rules)) (sym in_front) (All-cons (IsOfRules rules) step (reverse steps) (record { low = is.low; is = is.is }) under_way.among)
 
     -- from the part of the rule, which is that of the state
     from_rule : Leads (IsState (record { part = found.rule.part; group = state.group })) (reverse steps) end.part end.group
@@ -63,7 +60,7 @@ is_constant (Kept state) other = absurd (other state refl)
 
 pub is_way : (s : Constraints) (check : Check) (rules : List Lower) (end : State) (steps : List Step) → rules ≡ s.lower → IsEnd check end → IsWalk rules end steps → IsWay s check steps
 is_way s check rules end steps same is walk = record {
-  rules = subst (λ (list : List Lower). All (IsAmong list) steps) same walk.among;
+  rules = subst (λ (list : List Lower). All (IsOfRules list) steps) same walk.among;
   group = end.group;
   through = is.through;
   leads = subst (λ (part : Part). Leads Nothing steps part end.group) is.part_is walk.leads;

@@ -1,12 +1,14 @@
 -- The way of a label: the rules by which a check fails, from a constant to the check's part.
-use Rattle.std.specs.Prelude.{◌≡◌, ℕ, ◌^◌, ◌<◌, false, List, [], ◌∷◌, All, Contains, IsTrue}
+use Rattle.std.specs.Prelude.{◌≡◌, ℕ, ◌^◌, ◌<◌, false, List, [], ◌∷◌, length, slice_index_or, All, IsTrue}
 use Rattle.vd_formula.specs.TruthTable.{TruthTable, at, is_subset}
 use Rattle.vd_constraints.specs.declared.system.Part.{Part}
 use Rattle.vd_constraints.specs.declared.system.Bound.{Bound}
 use Rattle.vd_constraints.specs.declared.system.Bound.TheVariants.{Constant, Same, Given, Or}
 use Rattle.vd_constraints.specs.declared.system.Lower.{Lower}
 use Rattle.vd_constraints.specs.declared.system.Check.{Check}
-use Rattle.vd_constraints.specs.Systems.{Constraints}
+use Rattle.vd_constraints.specs.declared.labels.Labels.{Labels}
+use Rattle.vd_constraints.specs.Systems.{Constraints, IsSystem}
+use Rattle.vd_constraints.specs.Satisfies.{HoldsCheck, HoldsRule, IsLabelling}
 use Rattle.vd_flow.specs.declared.ways.Step.{Step}
 use Rattle.vd_flow.specs.declared.ways.State.{State}
 
@@ -51,10 +53,21 @@ Leads Kept (step ∷ steps) part group = Keeps Kept step.rule.bound step.group �
 abbrev pub Nothing : Part → ℕ → Type 0
 Nothing part group = ⊥
 
+-- the rule of a step is the one with its number
+pub record IsOfRules (rules : List Lower) (step : Step) : Type 0 where
+  pub low : step.number < length rules
+  pub is : slice_index_or rules step.number step.rule ≡ step.rule
+
 -- The steps go by rules of the system, from a constant to the part of the check, and keep a group from it that the check's constant lets
 -- through.
 pub record IsWay (s : Constraints) (check : Check) (steps : List Step) : Type 0 where
-  pub rules : All (λ (step : Step). Contains s.lower step.rule) steps
+  pub rules : All (IsOfRules s.lower) steps
   pub group : ℕ
   pub through : LetsThrough check.constant group
   pub leads : Leads Nothing steps check.part group
+
+-- each labelling at which the rules of a way hold fails its check
+abbrev pub WaysMakeChecksFail : Type 0
+WaysMakeChecksFail =
+    (s : Constraints) (check : Check) (steps : List Step) (l : Labels) →
+    IsSystem s → IsLabelling s l → IsWay s check steps → All (λ (step : Step). HoldsRule l step.rule) steps → (HoldsCheck l check → ⊥)

@@ -6,8 +6,10 @@ ghost use Rattle.vd_constraints.specs.Satisfies.{HoldsCheck, HoldsRule, IsBoundO
 ghost use Rattle.vd_constraints.specs.Systems.{IsLabelOver};
 ghost use Rattle.vd_flow.specs.Faults.{IsFaultOf};
 
+mod laws;
 mod ways;
 
+pub use laws::ways_make_checks_fail;
 use std::error::Error;
 use std::fmt;
 use vd_constraints::{Bound, Check, Labels, Lower, System};

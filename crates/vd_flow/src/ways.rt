@@ -12,6 +12,8 @@ use vd_formula::Formula;
 /// A step of the way: by its rule a group of principals is kept from the rule's part.
 #[derive(Clone, Copy)]
 pub struct Step {
+    /// The number of the rule in its system.
+    pub number: usize,
     pub rule: Lower,
     /// The set of the principals, by its number.
     pub group: u8,
@@ -34,6 +36,7 @@ pub(crate) enum Ground {
 /// A rule that keeps a group from its part, and why.
 #[derive(Clone, Copy)]
 pub(crate) struct Found {
+    pub number: usize,
     pub rule: Lower,
     pub ground: Ground,
 }
@@ -207,10 +210,11 @@ fn ground_of(table: &Table, bound: &Bound, group: u8, round: u32) -> Option<Grou
 fn find_rule(table: &Table, rules: &[Lower], state: State, round: u32) -> Option<Found>
     ensures { IfSome result (IsFound rules.now state) }
 {
-    for rule in rules {
+    for (number, rule) in rules.iter().enumerate() {
         if rule.part == state.part {
             if let Some(ground) = ground_of(table, &rule.bound, state.group, round) {
                 return Some(Found {
+                    number,
                     rule: *rule,
                     ground,
                 });
@@ -243,6 +247,7 @@ fn walk(
     let mut round = table.round(end);
     'steps: while let Some(found) = find_rule(table, rules, state, round) {
         steps.push(Step {
+            number: found.number,
             rule: found.rule,
             group: state.group,
         })?;
