@@ -1,5 +1,5 @@
 -- What is told of two inputs files that have the same token at the same place.
-use Rattle.std.proofs.Common.{◌≡◌, ℕ, Bool, List, [], Option, Some, None, refl, ap, ◌∙◌}
+use Rattle.std.proofs.Common.{◌≡◌, ℕ, Bool, List, [], ◌++◌, Option, Some, None, refl, sym, ap, ◌∙◌}
 use Rattle.std.specs.Option.{option_map_or}
 use Rattle.vd_report.specs.declared.fault.ReadFault.{ReadFault}
 use Rattle.vd_report.specs.declared.fault.ReadFault.TheVariants.{Text, UnknownHost, Memory}
@@ -12,7 +12,7 @@ use Rattle.vd_diag.specs.Remarks.{at, told_place}
 use Rattle.vd_diag.specs.declared.remark.Remark.{Remark}
 use Rattle.vd_diag_terminal.specs.Programs.{SaysOne}
 use Rattle.vd_diag_terminal.specs.Remarks.{IsInputsRemark}
-use Rattle.vd_diag_terminal.specs.Said.{IsRemarkTold, told_of}
+use Rattle.vd_diag_terminal.specs.Said.{IsAllTold, IsRemarkTold, steps_told, told_of}
 use Rattle.vd_diag_terminal.specs.Secret.{AreAlike, AreAlikeAt, NoSecretIsTold}
 
 module _ (coloured : Bool) (name bytes other text : List ℕ) where
@@ -52,8 +52,22 @@ module _ (coloured : Bool) (name bytes other text : List ℕ) where
   of_fault (UnknownHost offset) alike told = of_name offset told.remark alike told.is told.printed
   of_fault Memory alike told = of_memory told.remark told.is
 
+-- behind a remark on inputs there are no steps
+module _ (coloured : Bool) (name bytes other text : List ℕ) (fault : ReadFault) where
+  no_steps : (steps : List Remark) → steps ≡ [] → steps_told coloured name bytes steps ≡ steps_told coloured name other steps
+  no_steps steps none = ap (steps_told coloured name bytes) none ∙ sym (ap (steps_told coloured name other) none)
+
+  all_alike : AreAlike bytes other fault → IsAllTold coloured (InputText fault) name bytes text → IsAllTold coloured (InputText fault) name other text
+  all_alike alike told = record {
+    first = told.first;
+    remark = of_fault coloured name bytes other told.first fault alike told.remark;
+    steps = told.steps;
+    are = told.are;
+    printed = told.printed ∙ ap (λ (more : List ℕ). told.first ++ more) (no_steps told.steps told.are);
+  }
+
 pub stay_secret : NoSecretIsTold
 stay_secret = record {
-  inputs = λ coloured name bytes other text fault alike told. of_fault coloured name bytes other text fault alike told;
+  inputs = all_alike;
   deals = λ words host number offset. refl;
 }

@@ -9,3 +9,5 @@ mod Seen
 mod Arms
 mod Pure
 mod Alike
+mod Steps
+mod Offsets

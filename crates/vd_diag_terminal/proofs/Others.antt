@@ -14,7 +14,7 @@ use Rattle.vd_diag.specs.declared.remark.Remark.{Remark}
 use Rattle.vd_diag_terminal.specs.Alone.{alone, of_host}
 use Rattle.vd_diag_terminal.specs.Files.{reading_of}
 use Rattle.vd_diag_terminal.specs.Remarks.{IsRemarkOn}
-use Rattle.vd_diag_terminal.specs.Said.{told_of}
+use Rattle.vd_diag_terminal.specs.Said.{AreStepsOn, told_of}
 
 -- a status of which no file is read
 pub unread : (words : List (List ℕ)) (s : Status) → ((f : ParseFault) → s ≢ status.Syntax f) → ((f : NameFault) → s ≢ status.Names f) → ((f : FlowFault) → s ≢ status.Flow f) → ((p : LabelledForm) → s ≢ status.NoAssignment p)
@@ -58,3 +58,8 @@ unremarked bytes s a b c d e g h = refl
 pub shown_whole : (s : Status) (coloured : Bool) (name bytes : List ℕ) (remark : Remark) → ((f : ReadFault) → s ≢ status.InputText f) → told coloured name bytes remark ≡ told_of s coloured name bytes remark
 shown_whole (status.InputText f) coloured name bytes remark other = absurd (other f refl)
 shown_whole s coloured name bytes remark other = refl
+
+-- one to which there are no steps
+pub without_steps : (bytes : List ℕ) (s : Status) → ((f : FlowFault) → s ≢ status.Flow f) → AreStepsOn bytes s []
+without_steps bytes (status.Flow f) other = absurd (other f refl)
+without_steps bytes s other = refl

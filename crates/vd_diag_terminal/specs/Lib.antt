@@ -8,6 +8,7 @@ pub mod Saying
 pub mod Phrases
 pub mod FlowSentences
 pub mod Flow
+pub mod FlowSteps
 pub mod Spaces
 pub mod Bare
 pub mod Sentences

@@ -1,15 +1,17 @@
 -- What is said of a status besides its line, by the words of the command line and the file that is read.
-use Rattle.std.specs.Prelude.{◌≡◌, ℕ, Bool, List, [], Option, Some, None, Result, Ok, Err, IfOk}
+use Rattle.std.specs.Prelude.{◌≡◌, ℕ, Bool, List, [], ◌++◌, Option, Some, None, Result, Ok, Err, IfOk}
+use Rattle.std.specs.List.{flat_map}
 use Rattle.std.specs.Option.{option_map_or}
 use Rattle.vd_outside.specs.Files.{FilesView, Fetches}
 use Rattle.vd_outside.specs.declared.faults.FetchFault.{FetchFault}
 use Rattle.vd_cmd_plan.specs.declared.status.Status.{Status}
-use Rattle.vd_cmd_plan.specs.declared.status.Status.TheVariants.{InputText}
+use Rattle.vd_cmd_plan.specs.declared.status.Status.TheVariants.{Flow, InputText}
 use Rattle.vd_diag.specs.Remarks.{told, told_place}
 use Rattle.vd_diag.specs.declared.fault.TellFault.{TellFault}
 use Rattle.vd_diag.specs.declared.remark.Remark.{Remark}
 use Rattle.vd_diag_terminal.specs.Alone.{alone}
 use Rattle.vd_diag_terminal.specs.Files.{reading_of, word_at}
+use Rattle.vd_diag_terminal.specs.FlowSteps.{AreFlowSteps}
 use Rattle.vd_diag_terminal.specs.Remarks.{IsRemarkOn}
 use Rattle.vd_diag_terminal.specs.declared.files.Reading.{Reading}
 
@@ -24,9 +26,25 @@ pub record IsRemarkTold (coloured : Bool) (status : Status) (name bytes text : L
   pub is : IsRemarkOn bytes status remark
   pub printed : text ≡ option_map_or (told_of status coloured name bytes) remark []
 
+-- the steps to a status: of a flow that fails those of its label, of others none
+abbrev pub AreStepsOn : List ℕ → Status → List Remark → Type 0
+AreStepsOn bytes (Flow fault) steps = AreFlowSteps bytes fault.number steps
+AreStepsOn bytes end steps = steps ≡ []
+
+abbrev pub steps_told : Bool → List ℕ → List ℕ → List Remark → List ℕ
+steps_told coloured name bytes = flat_map (told coloured name bytes)
+
+-- the remark, and behind it the steps
+pub record IsAllTold (coloured : Bool) (status : Status) (name bytes text : List ℕ) : Type 0 where
+  pub first : List ℕ
+  pub remark : IsRemarkTold coloured status name bytes first
+  pub steps : List Remark
+  pub are : AreStepsOn bytes status steps
+  pub printed : text ≡ first ++ steps_told coloured name bytes steps
+
 -- by what its fetch gave: nothing where it gave no bytes
 abbrev pub IsToldOf : Bool → Status → List ℕ → Result (List ℕ) FetchFault → List ℕ → Type 0
-IsToldOf coloured status name (Ok bytes) text = IsRemarkTold coloured status name bytes text
+IsToldOf coloured status name (Ok bytes) text = IsAllTold coloured status name bytes text
 IsToldOf coloured status name (Err fault) text = text ≡ []
 
 -- The file with this name is fetched, and nothing else is asked of files. Running out of memory may leave the text out.

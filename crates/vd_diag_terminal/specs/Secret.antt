@@ -7,7 +7,7 @@ use Rattle.vd_diag.specs.Excerpts.{column}
 use Rattle.vd_diag.specs.Inputs.{token_at}
 use Rattle.vd_diag.specs.Lines.{line_number}
 use Rattle.vd_diag_terminal.specs.Files.{reading_of}
-use Rattle.vd_diag_terminal.specs.Said.{IsRemarkTold}
+use Rattle.vd_diag_terminal.specs.Said.{IsAllTold}
 
 -- in two files the same token stands at this offset, in the same line and column
 pub record AreAlikeAt (bytes other : List ℕ) (offset : ℕ) : Type 0 where
@@ -25,5 +25,5 @@ AreAlike bytes other Memory = Unit {0}
 -- Where the text of a deal is refused, no file is read to tell more of it.
 pub record NoSecretIsTold : Type 0 where
   pub inputs : (coloured : Bool) (name bytes other text : List ℕ) (fault : ReadFault) → AreAlike bytes other fault
-      → IsRemarkTold coloured (InputText fault) name bytes text → IsRemarkTold coloured (InputText fault) name other text
+      → IsAllTold coloured (InputText fault) name bytes text → IsAllTold coloured (InputText fault) name other text
   pub deals : (words : List (List ℕ)) (host : List ℕ) (number offset : ℕ) → reading_of words (DealText host number offset) ≡ None

@@ -1,6 +1,7 @@
 -- The sentence on a slot that has no candidate.
-use Rattle.std.specs.Prelude.{ℕ, List, [], codes, decimal, slice_get}
+use Rattle.std.specs.Prelude.{ℕ, if◌then◌else◌, nat_lt, List, [], codes, decimal, slice_get}
 use Rattle.std.specs.Option.{option_map_or}
+use Rattle.vd_base.specs.declared.ids.SlotId.{SlotId}
 use Rattle.vd_core.specs.declared.normal.NormalForm.{NormalForm}
 use Rattle.vd_formula.specs.declared.label.Label.{Label}
 use Rattle.vd_report.specs.LabelLines.{formula_text}
@@ -24,3 +25,10 @@ slot_name p number = option_map_or (λ slot. slot.name) (slice_get p.slots numbe
 
 abbrev pub slot_offset : NormalForm → ℕ → ℕ
 slot_offset p number = option_map_or (λ slot. slot.offset) (slice_get p.slots number) 0
+
+-- the later one of the places of two slots
+abbrev pub later : ℕ → ℕ → ℕ
+later a b = if nat_lt a b then b else a
+
+abbrev pub later_slot : NormalForm → SlotId → SlotId → ℕ
+later_slot p x y = later (slot_offset p x.0) (slot_offset p y.0)

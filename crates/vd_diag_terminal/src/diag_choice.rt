@@ -11,3 +11,4 @@ pub use laws::valid_lists_stand_at_candidates;
 pub use remarks::no_assignment_remark;
 pub use spaces::space_for;
 pub use spent::search_sentence;
+pub(crate) use texts::{later, later_slot, slot_name, slot_offset};

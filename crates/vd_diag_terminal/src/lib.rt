@@ -16,7 +16,7 @@ pub use diag_branches::{barriers_are_what_is_not_pure, branch_remark};
 pub use diag_choice::{
     no_assignment_remark, search_sentence, space_for, valid_lists_stand_at_candidates,
 };
-pub use diag_flow::flow_remark;
+pub use diag_flow::{flow_remark, flow_steps};
 pub use laws::{faults_are_shown_in_their_files, no_secret_is_told};
 pub use remarks::remark_on;
-pub use telling::{Destination, say_more};
+pub use telling::{Destination, say_more, steps_on};

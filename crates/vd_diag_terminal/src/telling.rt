@@ -1,15 +1,16 @@
 //! What is said of a status to a person, besides its line.
 
-ghost use Rattle.std.specs.Prelude.{◌≡◌, IfOk, Some, []};
+ghost use Rattle.std.specs.Prelude.{◌≡◌, ◌++◌, IfOk, OnOk, Some, []};
 ghost use Rattle.vd_diag_terminal.specs.Said as texts;
 ghost use Rattle.vd_diag_terminal.specs.Saying.{SaysMore, SaysTo};
 
 use crate::alone::alone;
+use crate::diag_flow::flow_steps;
 use crate::files::{Reading, reading_of};
 use crate::remarks::remark_on;
 use crate::words::word_at;
 use std::alloc::{AllocError, Global};
-use vd_base::{Bytes, Texts};
+use vd_base::{Bytes, Items, Texts};
 use vd_cmd_plan::Status;
 use vd_diag::{Remark, TellFault, tell, tell_place};
 use vd_outside::{FetchFault, Files, Sink, write_all};
@@ -62,6 +63,51 @@ fn remark_told(
     }
 }
 
+/// The steps to a status of the file with these bytes: of a flow that is not allowed a place and a sentence for each rule by which its
+/// check fails, from where the label enters; of others none.
+pub fn steps_on(alloc: Global, bytes: &[u8], status: &Status) -> Result<Items<Remark>, TellFault>
+    ensures { IfOk result (texts.AreStepsOn bytes.now status.now) }
+{
+    match status {
+        Status::Flow(fault) => flow_steps(alloc, bytes, fault.number),
+        _ => Ok(Items::new(alloc)),
+    }
+}
+
+/// Adds steps as they are printed.
+fn add_steps(
+    alloc: Global,
+    text: &mut Bytes,
+    coloured: bool,
+    name: &str,
+    bytes: &[u8],
+    steps: &[Remark],
+) -> Result<(), AllocError>
+    ensures { OnOk result (text.new ≡ text.old ++ texts.steps_told coloured name.now bytes.now steps.now) }
+{
+    for step in steps {
+        let told = tell(alloc, coloured, name, bytes, step)?;
+        text.extend_from_slice(told.as_slice())?;
+    }
+    Ok(())
+}
+
+/// The remark on the bytes of the file with this name, and the steps behind it, as they are printed.
+fn all_told(
+    alloc: Global,
+    coloured: bool,
+    name: &str,
+    bytes: &[u8],
+    status: &Status,
+) -> Result<Bytes, TellFault>
+    ensures { IfOk result (texts.IsAllTold coloured status.now name.now bytes.now) }
+{
+    let mut text = remark_told(alloc, coloured, name, bytes, status)?;
+    let steps = steps_on(alloc, bytes, status)?;
+    add_steps(alloc, &mut text, coloured, name, bytes, steps.as_slice())?;
+    Ok(text)
+}
+
 /// What is said where a file is not given: nothing, unless there was no memory for it.
 fn said_of_fault(alloc: Global, fault: FetchFault) -> Result<Bytes, TellFault>
     ensures { IfOk result (λ text. text ≡ []) }
@@ -84,7 +130,7 @@ fn said_of_file<F: Files>(
     ensures { texts.IsSaidOfFile coloured status.now name.now limit (F.view files.old) (F.view files.new) result }
 {
     match files.fetch(name, limit) {
-        Ok(bytes) => remark_told(alloc, coloured, name, bytes.as_slice(), status),
+        Ok(bytes) => all_told(alloc, coloured, name, bytes.as_slice(), status),
         Err(fault) => said_of_fault(alloc, fault),
     }
 }

@@ -5,7 +5,7 @@ ghost use Rattle.vd_diag_terminal.specs.Sentences as sentences;
 
 use itoa::Buffer;
 use std::alloc::{AllocError, Global};
-use vd_base::{Bytes, Names};
+use vd_base::{Bytes, Names, SlotId};
 use vd_core::NormalForm;
 use vd_diag::three;
 use vd_formula::Label;
@@ -74,4 +74,21 @@ pub(crate) fn slot_offset(form: &NormalForm, number: usize) -> u32
         Some(slot) => slot.offset,
         None => 0,
     }
+}
+
+/// The later one of two offsets.
+pub(crate) fn later(first: u32, other: u32) -> u32
+    ensures { result ≡ sentences.later first other }
+{
+    if first < other { other } else { first }
+}
+
+/// The later one of the places of two slots.
+pub(crate) fn later_slot(form: &NormalForm, first: SlotId, other: SlotId) -> u32
+    ensures { result ≡ sentences.later_slot form.now first other }
+{
+    later(
+        slot_offset(form, usize::from(first.0)),
+        slot_offset(form, usize::from(other.0)),
+    )
 }

@@ -1,0 +1,7 @@
+use Rattle.std.proofs.Common.{◌≡◌, ◌++◌, drop}
+use Rattle.std.specs.List.{flat_map}
+use Rattle.vd_diag_terminal.specs.FlowSteps.{two}
+use Rattle.vd_diag_terminal.proofs.diag_flow.offsets.add_operands.Given as goal
+
+abbrev pub invariant-loop-_operand : goal.invariant-loop-_operand
+invariant-loop-_operand l = l.offsets ++ flat_map (λ y. two l.offset) (drop l._operand-index l.operands) ≡ l.initial.offsets ++ flat_map (λ y. two l.offset) l.operands

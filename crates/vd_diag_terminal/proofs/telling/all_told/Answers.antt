@@ -1,0 +1,10 @@
+use Rattle.vd_diag_terminal.proofs.telling.all_told.Goals as goal
+
+pub returns : goal.returns
+returns c = record {
+  first = c.in_ok-text.text;
+  remark = c.in_ok-text.ensures {u = tt};
+  steps = c.in_ok-steps.steps;
+  are = c.in_ok-steps.ensures {u = tt};
+  printed = c.in_ok-add_steps.ensures {u = tt};
+}
