@@ -12,6 +12,8 @@ pub mod FlowSteps
 pub mod Spaces
 pub mod Bare
 pub mod Sentences
+pub mod Stuck
+pub mod StuckSentences
 pub mod DiagChoiceRemarks
 pub mod Spent
 pub mod Barriers

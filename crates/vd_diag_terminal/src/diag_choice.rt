@@ -1,10 +1,16 @@
-//! Sentences on the choice of protocols for a program: the first slot that has no candidate, and how far a search came.
+//! Sentences on the choice of protocols for a program: the first slot that has no candidate, the first use, index or guard for which no
+//! places are left, and how far a search came.
 
 mod bare;
+mod branches;
 mod laws;
+mod left;
 mod remarks;
+mod sites;
 mod spaces;
 mod spent;
+mod stuck;
+mod stuck_remarks;
 mod texts;
 
 pub use laws::valid_lists_stand_at_candidates;

@@ -10,3 +10,4 @@ mod steps;
 
 pub use explained::flow_steps;
 pub use flow::flow_remark;
+pub(crate) use steps::slot_phrase;

@@ -5,17 +5,18 @@ ghost use Rattle.vd_diag_terminal.specs.DiagChoiceRemarks as remarks;
 ghost use Rattle.vd_space.specs.WellFormed.{AreProtocols};
 
 use crate::diag_choice::bare::first_bare;
+use crate::diag_choice::stuck_remarks::stuck_remark;
 use crate::diag_choice::texts::{bare_sentence, slot_name, slot_offset};
 use std::alloc::{AllocError, Global};
-use vd_base::{Bytes, Proto};
+use vd_base::Proto;
 use vd_core::{NormalForm, Program};
-use vd_diag::{Remark, no_assignment_sentence};
+use vd_diag::Remark;
 use vd_formula::Label;
 use vd_space::Problem;
 use vd_space_api::Space;
 
-/// The remark on a program for whose space no choice is valid: of the first slot that has no candidate, or of the whole file
-/// where each slot has one.
+/// The remark on a program for whose space no choice is valid: of the first slot that has no candidate, else of the first use,
+/// index or guard for which no places are left, else of the whole file.
 pub fn no_assignment_remark(
     alloc: Global,
     program: &Program,
@@ -41,7 +42,7 @@ fn remark_on(
             let making = problem.slots.as_slice()[number];
             bare_remark(alloc, form, number, &making.label)
         }
-        None => file_remark(alloc),
+        None => stuck_remark(alloc, form, problem, list),
     }
 }
 
@@ -58,17 +59,6 @@ fn bare_remark(
     let sentence = bare_sentence(alloc, &form.principals, number, name, label)?;
     Ok(Remark {
         offset: Some(slot_offset(form, number)),
-        sentence,
-    })
-}
-
-/// The remark on the whole file.
-fn file_remark(alloc: Global) -> Result<Remark, AllocError>
-    ensures { IfOk result (λ remark. remark ≡ remarks.file_remark) }
-{
-    let sentence = Bytes::from_slice(alloc, no_assignment_sentence().as_bytes())?;
-    Ok(Remark {
-        offset: None,
         sentence,
     })
 }
