@@ -1,6 +1,6 @@
 -- What is said of a status of which no file is read: how a command is called, or that a file which only this program writes
 -- is another.
-use Rattle.std.specs.Prelude.{ℕ, false, List, [], Option, Some, None, codes, if◌then◌else◌}
+use Rattle.std.specs.Prelude.{ℕ, false, List, [], ◌++◌, Option, Some, None, codes, if◌then◌else◌}
 use Rattle.std.specs.Option.{option_map_or}
 use Rattle.std.specs.Str.{bytes_eq}
 use Rattle.vd_cmd_plan.specs.Numbered.{file_name}
@@ -12,6 +12,7 @@ use Rattle.vd_diag.specs.Files.{certificate_sentence, deal_sentence, program_sen
 use Rattle.vd_diag.specs.Remarks.{of_file, told}
 use Rattle.vd_diag.specs.Usage.{usage_of}
 use Rattle.vd_diag_terminal.specs.Files.{command, word_at}
+use Rattle.vd_diag_terminal.specs.WrongWord.{wrong_of}
 
 -- a sentence on the whole file with this name
 abbrev pub of_whole : List ℕ → List ℕ → List ℕ
@@ -39,8 +40,12 @@ of_deal words number offset =
     else if bytes_eq (command words) (codes "host-within") then of_word words 3 (deal_sentence offset)
     else of_numbered (word_at words 3) number offset
 
+-- how the command that was meant is called, and which word is wrong
+abbrev pub of_usage : List (List ℕ) → List ℕ
+of_usage words = usage_of (command words) ++ wrong_of words
+
 abbrev pub alone : List (List ℕ) → Status → List ℕ
-alone words status.Usage = usage_of (command words)
+alone words status.Usage = of_usage words
 alone words (status.CertificateText offset) = of_word words 2 (certificate_sentence offset)
 alone words (status.DealText host number offset) = of_deal words number offset
 alone words (status.Host fault) = of_host words fault

@@ -1,6 +1,7 @@
 pub mod Programs
 pub mod Remarks
 pub mod Files
+pub mod WrongWord
 pub mod Alone
 pub mod Said
 pub mod Secret

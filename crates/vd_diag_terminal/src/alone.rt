@@ -2,21 +2,24 @@
 
 ghost use Rattle.std.specs.Prelude.{◌≡◌, IfOk, Some};
 ghost use Rattle.vd_diag.specs.Files as sentences;
-ghost use Rattle.vd_diag.specs.Usage.{usage_of as usage_text};
 ghost use Rattle.vd_diag_terminal.specs.Alone as texts;
 ghost use Rattle.vd_diag_terminal.specs.Files as files;
 
 use crate::words::{CERTIFICATE, DEAL, PREFIX, PROGRAM, command, is_command, word_at};
+use crate::wrong::wrong_of;
 use std::alloc::{AllocError, Global};
 use vd_base::{Bytes, Texts};
 use vd_cmd_plan::{HostStatus, Status, file_name};
 use vd_diag::{Remark, certificate_sentence, deal_sentence, program_sentence, tell, usage_of};
 
-/// How the command that was meant is called.
+/// How the command that was meant is called, and which word is wrong.
 fn of_usage(alloc: Global, words: &Texts) -> Result<Bytes, AllocError>
-    ensures { IfOk result (λ text. text ≡ usage_text (files.command words.now)) }
+    ensures { IfOk result (λ text. text ≡ texts.of_usage words.now) }
 {
-    Bytes::from_slice(alloc, usage_of(command(words)))
+    let wrong = wrong_of(alloc, words)?;
+    let mut text = Bytes::from_slice(alloc, usage_of(command(words)))?;
+    text.extend_from_slice(wrong.as_slice())?;
+    Ok(text)
 }
 
 /// A sentence on the whole file with this name.
