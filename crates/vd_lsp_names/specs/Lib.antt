@@ -1,0 +1,4 @@
+pub mod Uses
+pub mod Asking
+pub mod Texts
+pub mod Sights
