@@ -4,7 +4,7 @@ use Rattle.std.specs.Prelude.{slice_get, option_map, option_copied}
 use Rattle.serde_json.specs.Data.{Data}
 use Rattle.serde_json.specs.View.{view, items_of, items_view}
 use Rattle.serde_json.specs.declared.value.Value.{Value}
-use Rattle.vd_lsp_messages.specs.Asked.{last_item}
+use Rattle.vd_lsp_messages.specs.Members.{last_item}
 
 last_at : (vs : List Value) → option_map view (slice_get vs (length vs - 1)) ≡ last_item (items_view vs)
 unfolding last_item

@@ -10,20 +10,21 @@ use crate::kinds::{Id, Incoming};
 use crate::members::{
     changed_document, has_id, id_of, is_answer, name_of, opened_document, uri_of,
 };
+use crate::questions::other_request;
 use serde_json::Value;
 use std::alloc::{AllocError, Global};
 use vd_base::Text;
 
 /// The request for this method.
-fn request_of(name: &[u8], id: Id) -> Incoming
-    ensures { result ≡ asked.request_of name.now id }
+fn request_of(alloc: Global, name: &[u8], message: &Value, id: Id) -> Result<Incoming, AllocError>
+    ensures { IfOk result (λ incoming. incoming ≡ asked.request_of name.now (view message.now) id) }
 {
     if name == b"initialize".as_slice() {
-        Incoming::Initialize(id)
+        Ok(Incoming::Initialize(id))
     } else if name == b"shutdown".as_slice() {
-        Incoming::Shutdown(id)
+        Ok(Incoming::Shutdown(id))
     } else {
-        Incoming::Unknown(id)
+        other_request(alloc, name, message, id)
     }
 }
 
@@ -96,7 +97,7 @@ fn named(alloc: Global, name: &[u8], message: &Value) -> Result<Incoming, AllocE
 {
     if has_id(message) {
         let id = id_of(alloc, message)?;
-        Ok(request_of(name, id))
+        request_of(alloc, name, message, id)
     } else {
         notice_of(alloc, name, message)
     }

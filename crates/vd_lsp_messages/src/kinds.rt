@@ -18,6 +18,23 @@ pub struct Document {
     pub text: Text,
 }
 
+/// What is asked of a document.
+#[derive(Drop)]
+pub enum Question {
+    /// Where the name at this place is declared.
+    Definition(Place),
+    /// Where the declaration of the name at this place has names.
+    References(Place),
+    /// What is to be changed, so that the declaration of the name at this place has that name.
+    Rename(Place, Text),
+    /// What the document declares.
+    Symbols,
+    /// Which words may be written.
+    Completion,
+    /// What is to be said of the name at this place.
+    Hover(Place),
+}
+
 /// What the body of a message asks for.
 #[derive(Drop)]
 pub enum Incoming {
@@ -27,6 +44,8 @@ pub enum Incoming {
     Invalid(Id),
     Initialize(Id),
     Shutdown(Id),
+    /// A question on the document with this name.
+    Asked(Id, Text, Question),
     /// A request for something else.
     Unknown(Id),
     /// A document was opened.
@@ -51,6 +70,15 @@ pub enum Code {
     NoMethod,
     /// The server was not initialized.
     Early,
+    /// The new name of something is no name, or is there.
+    Name,
+}
+
+/// From where to where something stands in a text.
+#[derive(Clone, Copy)]
+pub struct Range {
+    pub start: Place,
+    pub end: Place,
 }
 
 /// A fault of a text: from where to where it is marked, the number of its status, and what is said of it.
@@ -62,12 +90,49 @@ pub struct Fault {
     pub sentence: Text,
 }
 
-/// The faults of a document at a version; at none, where it was closed.
+/// The faults of a document at a version, and where it declares what is not used; at no version, where it was closed.
 #[derive(Drop)]
 pub struct Published {
     pub uri: Text,
     pub version: Option<i64>,
     pub faults: Items<Fault>,
+    pub unused: Items<Range>,
+}
+
+/// A word that a document declares or that may be written, with the number that the protocol has for its sort.
+#[derive(Drop)]
+pub struct Word {
+    pub text: Text,
+    pub sort: u8,
+}
+
+/// A word that a document declares, and where.
+#[derive(Drop)]
+pub struct Symbol {
+    pub word: Word,
+    pub range: Range,
+}
+
+/// What is to be changed in a document at this version: in each of the ranges that word is to stand.
+#[derive(Drop)]
+pub struct Edits {
+    pub uri: Text,
+    pub version: i64,
+    pub ranges: Items<Range>,
+    pub word: Text,
+}
+
+/// What a question is answered with.
+#[derive(Drop)]
+pub enum Answer {
+    Nothing,
+    /// Ranges of the document with this name.
+    Places(Text, Items<Range>),
+    Edits(Edits),
+    Symbols(Items<Symbol>),
+    Words(Items<Word>),
+    /// What is said of a range.
+    Said(Text, Range),
 }
 
 /// What the server says.
@@ -77,6 +142,8 @@ pub enum Outgoing {
     Initialized(Id),
     /// The request was carried out, and has no result.
     Done(Id),
+    /// The answer to a question.
+    Answered(Id, Answer),
     Refused(Id, Code),
     Published(Published),
 }

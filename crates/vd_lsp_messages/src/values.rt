@@ -3,12 +3,13 @@
 ghost use Rattle.std.specs.Prelude.{◌≡◌, IfOk};
 ghost use Rattle.serde_json.specs.View.{view};
 ghost use Rattle.serde_json.specs.Data.{array};
+ghost use Rattle.vd_lsp_messages.specs.Answers.{answer_data};
 ghost use Rattle.vd_lsp_messages.specs.Said as said;
 
-use crate::kinds::{Code, Fault, Id, Outgoing, Published};
+use crate::answers::{answer_value, range_value};
+use crate::kinds::{Answer, Code, Fault, Id, Outgoing, Published, Range};
 use serde_json::{Value, json};
 use std::alloc::{AllocError, Global};
-use vd_lsp_wire::Place;
 
 /// The name of a request.
 fn id_value(alloc: Global, id: &Id) -> Result<Value, AllocError>
@@ -33,7 +34,16 @@ fn initialized_value(alloc: Global, id: &Id) -> Result<Value, AllocError>
         "jsonrpc": "2.0",
         "id": id,
         "result": {
-            "capabilities": {"positionEncoding": "utf-16", "textDocumentSync": 1},
+            "capabilities": {
+                "positionEncoding": "utf-16",
+                "textDocumentSync": 1,
+                "definitionProvider": true,
+                "referencesProvider": true,
+                "renameProvider": true,
+                "documentSymbolProvider": true,
+                "completionProvider": {},
+                "hoverProvider": true
+            },
             "serverInfo": {"name": "viaduct"}
         }
     })
@@ -56,6 +66,7 @@ fn number_of(code: Code) -> i64
         Code::Invalid => -32600,
         Code::NoMethod => -32601,
         Code::Early => -32002,
+        Code::Name => -32803,
     }
 }
 
@@ -68,6 +79,7 @@ fn words_of(code: Code) -> &'static str
         Code::Invalid => "the request cannot be made here",
         Code::NoMethod => "there is no such method",
         Code::Early => "the server was not initialized",
+        Code::Name => "the new name is no name, or stands in the text",
     }
 }
 
@@ -79,24 +91,6 @@ fn refused_value(alloc: Global, id: &Id, code: Code) -> Result<Value, AllocError
     let number = number_of(code);
     let words = words_of(code);
     json!(in alloc; {"jsonrpc": "2.0", "id": id, "error": {"code": number, "message": words}})
-}
-
-/// A place.
-fn place_value(alloc: Global, place: Place) -> Result<Value, AllocError>
-    ensures { IfOk result (λ value. view value ≡ said.place_data place) }
-{
-    let line = place.line;
-    let column = place.column;
-    json!(in alloc; {"line": line, "character": column})
-}
-
-/// From one place to another.
-fn range_value(alloc: Global, start: Place, end: Place) -> Result<Value, AllocError>
-    ensures { IfOk result (λ value. view value ≡ said.range_data start end) }
-{
-    let start = place_value(alloc, start)?;
-    let end = place_value(alloc, end)?;
-    json!(in alloc; {"start": start, "end": end})
 }
 
 /// A fault.
@@ -115,13 +109,31 @@ fn fault_value(alloc: Global, fault: &Fault) -> Result<Value, AllocError>
     })
 }
 
-/// These faults, in order.
-fn faults_value(alloc: Global, faults: &[Fault]) -> Result<Value, AllocError>
-    ensures { IfOk result (λ value. view value ≡ array (said.faults_data faults.now)) }
+/// A hint that nothing uses what is declared here.
+fn unused_value(alloc: Global, range: Range) -> Result<Value, AllocError>
+    ensures { IfOk result (λ value. view value ≡ said.unused_data range) }
+{
+    let range = range_value(alloc, range.start, range.end)?;
+    json!(in alloc; {
+        "range": range,
+        "severity": 4,
+        "source": "viaduct",
+        "message": "nothing uses this name",
+        "tags": [1]
+    })
+}
+
+/// These faults, in order, and then the hints.
+fn diagnostics_value(alloc: Global, faults: &[Fault], unused: &[Range]) -> Result<Value, AllocError>
+    ensures { IfOk result (λ value. view value ≡ array (said.diagnostics faults.now unused.now)) }
 {
     let mut values = Vec::new(alloc);
     for fault in faults {
         let value = fault_value(alloc, fault)?;
+        serde_json::push(&mut values, value)?;
+    }
+    for range in unused {
+        let value = unused_value(alloc, *range)?;
         serde_json::push(&mut values, value)?;
     }
     Ok(Value::Array(values))
@@ -148,13 +160,23 @@ fn params_value(
 fn published_value(alloc: Global, published: &Published) -> Result<Value, AllocError>
     ensures { IfOk result (λ value. view value ≡ said.published published.now) }
 {
-    let faults = faults_value(alloc, published.faults.as_slice())?;
+    let faults = published.faults.as_slice();
+    let faults = diagnostics_value(alloc, faults, published.unused.as_slice())?;
     let params = params_value(alloc, published.uri.as_str(), published.version, faults)?;
     json!(in alloc; {
         "jsonrpc": "2.0",
         "method": "textDocument/publishDiagnostics",
         "params": params
     })
+}
+
+/// The answer to a question.
+fn answered_value(alloc: Global, id: &Id, answer: &Answer) -> Result<Value, AllocError>
+    ensures { IfOk result (λ value. view value ≡ said.answered (said.id_data id.now) (answer_data answer.now)) }
+{
+    let id = id_value(alloc, id)?;
+    let answer = answer_value(alloc, answer)?;
+    json!(in alloc; {"jsonrpc": "2.0", "id": id, "result": answer})
 }
 
 /// What the server says.
@@ -164,6 +186,7 @@ pub(crate) fn value_of(alloc: Global, outgoing: &Outgoing) -> Result<Value, Allo
     match outgoing {
         Outgoing::Initialized(id) => initialized_value(alloc, id),
         Outgoing::Done(id) => done_value(alloc, id),
+        Outgoing::Answered(id, answer) => answered_value(alloc, id, answer),
         Outgoing::Refused(id, code) => refused_value(alloc, id, *code),
         Outgoing::Published(published) => published_value(alloc, published),
     }
