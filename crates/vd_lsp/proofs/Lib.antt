@@ -1,4 +1,5 @@
 mod Outcomes
 mod ByStatus
+mod SlotLines
 mod Rounds
 mod Pieces

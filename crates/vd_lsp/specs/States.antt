@@ -1,10 +1,13 @@
 -- What a server keeps, and what it answers to a message.
 use Rattle.std.specs.Prelude.{◌≡◌, ℕ, ◌-◌, Bool, true, false, not, List, [], ◌∷◌, ◌++◌, length, Option, Some, None, slice_get, if◌then◌else◌}
-use Rattle.std.specs.List.{filter}
+use Rattle.std.specs.List.{filter, find}
 use Rattle.std.specs.Str.{bytes_eq}
+use Rattle.vd_lsp_messages.specs.declared.kinds.Answer.{Answer}
+use Rattle.vd_lsp_messages.specs.declared.kinds.Answer.TheVariants as answer
 use Rattle.vd_lsp_messages.specs.declared.kinds.Code.{Code}
 use Rattle.vd_lsp_messages.specs.declared.kinds.Code.TheVariants as code
 use Rattle.vd_lsp_messages.specs.declared.kinds.Document.{Document}
+use Rattle.vd_lsp_messages.specs.declared.kinds.Fault.{Fault}
 use Rattle.vd_lsp_messages.specs.declared.kinds.Id.{Id}
 use Rattle.vd_lsp_messages.specs.declared.kinds.Id.TheVariants as id
 use Rattle.vd_lsp_messages.specs.declared.kinds.Incoming.{Incoming}
@@ -12,7 +15,14 @@ use Rattle.vd_lsp_messages.specs.declared.kinds.Incoming.TheVariants as incoming
 use Rattle.vd_lsp_messages.specs.declared.kinds.Outgoing.{Outgoing}
 use Rattle.vd_lsp_messages.specs.declared.kinds.Outgoing.TheVariants as outgoing
 use Rattle.vd_lsp_messages.specs.declared.kinds.Published.{Published}
+use Rattle.vd_lsp_messages.specs.declared.kinds.Question.{Question}
+use Rattle.vd_lsp_messages.specs.declared.kinds.Range.{Range}
+use Rattle.vd_lsp_names.specs.Asking.{unused}
+use Rattle.vd_lsp_names.specs.Texts.{AreNamesOf}
+use Rattle.vd_lsp_names.specs.declared.kinds.Use.{Use}
+use Rattle.vd_lsp.specs.Answering.{IsAnswer}
 use Rattle.vd_lsp.specs.Faults.{AreFaultsOf}
+use Rattle.vd_lsp.specs.Names.{ranges_of}
 use Rattle.vd_lsp.specs.declared.states.Phase.{Phase}
 use Rattle.vd_lsp.specs.declared.states.Phase.TheVariants.{Fresh, Running, Ended}
 use Rattle.vd_lsp.specs.declared.states.Server.{Server}
@@ -96,7 +106,7 @@ to_shutdown phase name = outgoing.Refused name (refusal phase)
 
 -- a document that is closed has no faults any more
 abbrev pub to_closed : Phase → List ℕ → Turn
-to_closed Running uri = turn.Says (outgoing.Published (record { uri = uri; version = None; faults = [] }))
+to_closed Running uri = turn.Says (outgoing.Published (record { uri = uri; version = None; faults = []; unused = [] }))
 to_closed phase uri = turn.Silent
 
 -- with 0 behind `shutdown`, and else with 1
@@ -104,17 +114,35 @@ abbrev pub exit_status : Phase → ℕ
 exit_status Ended = 0
 exit_status phase = 1
 
-abbrev pub turn_of : Phase → Incoming → Turn
-turn_of phase incoming.Malformed = refused id.Null code.Parse
-turn_of phase (incoming.Invalid name) = refused name code.Invalid
-turn_of phase (incoming.Initialize name) = turn_to (to_initialize phase name)
-turn_of phase (incoming.Shutdown name) = turn_to (to_shutdown phase name)
-turn_of phase (incoming.Unknown name) = refused name (refusal phase)
-turn_of phase (incoming.Opened document) = turn.Silent
-turn_of phase (incoming.Changed document) = turn.Silent
-turn_of phase (incoming.Closed uri) = to_closed phase uri
-turn_of phase incoming.Exit = turn.Ends (exit_status phase)
-turn_of phase incoming.Passed = turn.Silent
+-- the document with this name
+abbrev pub document_at : List ℕ → List Document → Option Document
+document_at uri documents = find (λ document. bytes_eq document.uri uri) documents
+
+abbrev pub reply : Id → Option Answer → Outgoing
+reply name None = outgoing.Refused name code.Name
+reply name (Some given) = outgoing.Answered name given
+
+-- a question on a document that is not open is answered with nothing
+abbrev pub IsReplied : Id → Option Document → Question → Turn → Type 0
+IsReplied name None question taken = taken ≡ turn_to (outgoing.Answered name answer.Nothing)
+IsReplied name (Some document) question taken = (given : Option Answer) × IsAnswer document question given × (taken ≡ turn_to (reply name given))
+
+abbrev pub IsAsked : Phase → Id → Option Document → Question → Turn → Type 0
+IsAsked Running name document question taken = IsReplied name document question taken
+IsAsked phase name document question taken = taken ≡ refused name (refusal phase)
+
+abbrev pub IsTurn : Server → Incoming → Turn → Type 0
+IsTurn server incoming.Malformed taken = taken ≡ refused id.Null code.Parse
+IsTurn server (incoming.Invalid name) taken = taken ≡ refused name code.Invalid
+IsTurn server (incoming.Initialize name) taken = taken ≡ turn_to (to_initialize server.phase name)
+IsTurn server (incoming.Shutdown name) taken = taken ≡ turn_to (to_shutdown server.phase name)
+IsTurn server (incoming.Asked name uri question) taken = IsAsked server.phase name (document_at uri server.documents) question taken
+IsTurn server (incoming.Unknown name) taken = taken ≡ refused name (refusal server.phase)
+IsTurn server (incoming.Opened document) taken = taken ≡ turn.Silent
+IsTurn server (incoming.Changed document) taken = taken ≡ turn.Silent
+IsTurn server (incoming.Closed uri) taken = taken ≡ to_closed server.phase uri
+IsTurn server incoming.Exit taken = taken ≡ turn.Ends (exit_status server.phase)
+IsTurn server incoming.Passed taken = taken ≡ turn.Silent
 
 -- whether a message gives the due document another text, so that the one that it had is not looked at
 abbrev pub replaces : Incoming → Option Document → Bool
@@ -125,11 +153,17 @@ replaces message due = false
 
 -- ---- what is published
 
+-- where a text without faults declares what it does not use
+abbrev pub AreHintsOf : List ℕ → List Fault → List Range → Type 0
+AreHintsOf text [] hints = (names : List Use) × AreNamesOf text names × (hints ≡ ranges_of text (unused names))
+AreHintsOf text (fault ∷ faults) hints = hints ≡ []
+
 -- the faults of a document are those of its text, at its version
 pub record AreFaultsAt (document : Document) (published : Published) : Type 0 where
   pub uri : published.uri ≡ document.uri
   pub version : published.version ≡ Some document.version
   pub faults : AreFaultsOf document.uri document.text published.faults
+  pub hints : AreHintsOf document.text published.faults published.unused
 
 abbrev pub IsPublished : Document → Outgoing → Type 0
 IsPublished document (outgoing.Published published) = AreFaultsAt document published
@@ -147,5 +181,5 @@ due_before server message = if replaces message (due_of server) then None else d
 -- What is said before a message is answered, what is answered, and what becomes of the server.
 pub record IsStep (server : Server) (message : Incoming) (step : Step) : Type 0 where
   pub before : IsFlushed (due_before server message) step.before
-  pub turn : step.turn ≡ turn_of server.phase message
+  pub turn : IsTurn server message step.turn
   pub server_is : step.server ≡ after (settled server) message

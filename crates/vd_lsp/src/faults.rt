@@ -18,7 +18,7 @@ use vd_lsp_wire::{Place, mark_end, place_of};
 const LONG_SENTENCE: &[u8] = b"a source has at most 65536 bytes";
 
 /// A sentence as text, with U+FFFD for what is no UTF-8.
-fn text_of(alloc: Global, sentence: &[u8]) -> Result<Text, AllocError>
+pub(crate) fn text_of(alloc: Global, sentence: &[u8]) -> Result<Text, AllocError>
     ensures { IfOk result (λ text. text ≡ utf8_lossy sentence.now) }
 {
     let text = String::from_utf8_lossy(alloc, sentence)?;

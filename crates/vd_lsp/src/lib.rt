@@ -1,9 +1,12 @@
 //! The language server: the faults of a text, what is answered to each message, and the stream of frames.
 #![tactic(auto)]
 
+mod answering;
 mod checking;
 mod faults;
+mod hovers;
 mod laws;
+mod names;
 mod responding;
 mod serving;
 mod states;

@@ -2,13 +2,18 @@
 
 ghost use Rattle.std.specs.Prelude.{◌≡◌, ◌++◌, ◌∷◌, [], IfOk, option_copied};
 ghost use Rattle.vd_lsp.specs.States as states;
-ghost use Rattle.vd_lsp.specs.States.{IsFlushed, IsPublished, IsStep};
+ghost use Rattle.vd_lsp.specs.States.{AreHintsOf, IsAsked, IsFlushed, IsPublished, IsReplied, IsStep, IsTurn};
 
+use crate::answering::answer_to;
 use crate::faults::faults_of;
+use crate::names::{bytes_of, ranges_of};
 use crate::states::{Phase, Server};
 use std::alloc::{AllocError, Global};
 use vd_base::{Items, Text};
-use vd_lsp_messages::{Code, Document, Id, Incoming, Outgoing, Published};
+use vd_lsp_messages::{
+    Answer, Code, Document, Fault, Id, Incoming, Outgoing, Published, Question, Range,
+};
+use vd_lsp_names::{names_of, unused};
 
 /// What a server does after a message.
 #[derive(Drop)]
@@ -96,20 +101,38 @@ fn replaces(message: &Incoming, due: Option<&Document>) -> bool
     }
 }
 
+/// Where a text declares what it does not use.
+fn unused_of(alloc: Global, text: &[u8]) -> Result<Items<Range>, AllocError>
+    ensures { IfOk result (AreHintsOf text.now []) }
+{
+    let names = names_of(alloc, text)?;
+    let spans = unused(alloc, names.as_slice())?;
+    ranges_of(alloc, text, spans.as_slice())
+}
+
+/// Where a text declares what it does not use, if it has no faults.
+fn hints_of(alloc: Global, text: &[u8], faults: &[Fault]) -> Result<Items<Range>, AllocError>
+    ensures { IfOk result (AreHintsOf text.now faults.now) }
+{
+    match faults {
+        [] => unused_of(alloc, text),
+        [_fault, ..] => Ok(Items::new(alloc)),
+    }
+}
+
 /// The faults of a document.
 fn publish(alloc: Global, document: &Document) -> Result<Outgoing, AllocError>
     ensures { IfOk result (IsPublished document.now) }
 {
-    let faults = faults_of(
-        alloc,
-        document.uri.as_str(),
-        document.text.as_str().as_bytes(),
-    )?;
+    let text = bytes_of(document);
+    let faults = faults_of(alloc, document.uri.as_str(), text)?;
+    let unused = hints_of(alloc, text, faults.as_slice())?;
     let uri = Text::copy_of(alloc, document.uri.as_str())?;
     Ok(Outgoing::Published(Published {
         uri,
         version: Some(document.version),
         faults,
+        unused,
     }))
 }
 
@@ -314,6 +337,7 @@ fn to_closed(alloc: Global, phase: Phase, uri: &str) -> Result<Turn, AllocError>
                 uri,
                 version: None,
                 faults: Items::new(alloc),
+                unused: Items::new(alloc),
             })))
         }
         _ => Ok(Turn::Silent),
@@ -354,15 +378,77 @@ fn shutdown_turn(alloc: Global, phase: Phase, id: &Id) -> Result<Turn, AllocErro
     Ok(Turn::Says(to_shutdown(phase, id)))
 }
 
-/// What a server in this phase answers to a message.
-fn turn_of(alloc: Global, phase: Phase, message: &Incoming) -> Result<Turn, AllocError>
-    ensures { IfOk result (λ turn. turn ≡ states.turn_of phase message.now) }
+/// The document with this name, if it is open.
+fn document_at<'a>(documents: &'a [Document], uri: &str) -> Option<&'a Document>
+    ensures { option_copied result ≡ states.document_at uri.now documents.now }
 {
+    for document in documents {
+        if document.uri.as_str() == uri {
+            return Some(document);
+        }
+    }
+    None
+}
+
+/// The answer to a question, or the refusal of a new name.
+fn reply(id: Id, answer: Option<Answer>) -> Outgoing
+    ensures { result ≡ states.reply id answer }
+{
+    match answer {
+        Some(answer) => Outgoing::Answered(id, answer),
+        None => Outgoing::Refused(id, Code::Name),
+    }
+}
+
+/// The answer to a question on a document, or on none.
+fn replied(
+    alloc: Global,
+    id: &Id,
+    document: Option<&Document>,
+    question: &Question,
+) -> Result<Turn, AllocError>
+    ensures { IfOk result (IsReplied id.now (option_copied document.entry) question.now) }
+{
+    let id = copy_of(alloc, id)?;
+    match document {
+        Some(document) => {
+            let answer = answer_to(alloc, document, question)?;
+            Ok(Turn::Says(reply(id, answer)))
+        }
+        None => Ok(Turn::Says(Outgoing::Answered(id, Answer::Nothing))),
+    }
+}
+
+/// The answer to a question on the document with this name.
+fn asked(
+    alloc: Global,
+    server: &Server,
+    id: &Id,
+    uri: &str,
+    question: &Question,
+) -> Result<Turn, AllocError>
+    ensures { IfOk result (IsAsked server.now.phase id.now (states.document_at uri.now server.now.documents) question.now) }
+{
+    match server.phase {
+        Phase::Running => {
+            let document = document_at(server.documents.as_slice(), uri);
+            replied(alloc, id, document, question)
+        }
+        other => refused(alloc, id, refusal(other)),
+    }
+}
+
+/// What a server answers to a message.
+fn turn_of(alloc: Global, server: &Server, message: &Incoming) -> Result<Turn, AllocError>
+    ensures { IfOk result (IsTurn server.now message.now) }
+{
+    let phase = server.phase;
     match message {
         Incoming::Malformed => refused(alloc, &Id::Null, Code::Parse),
         Incoming::Invalid(id) => refused(alloc, id, Code::Invalid),
         Incoming::Initialize(id) => initialize_turn(alloc, phase, id),
         Incoming::Shutdown(id) => shutdown_turn(alloc, phase, id),
+        Incoming::Asked(id, uri, question) => asked(alloc, server, id, uri.as_str(), question),
         Incoming::Unknown(id) => refused(alloc, id, refusal(phase)),
         Incoming::Opened(_) | Incoming::Changed(_) | Incoming::Passed => Ok(Turn::Silent),
         Incoming::Closed(uri) => to_closed(alloc, phase, uri.as_str()),
@@ -375,7 +461,7 @@ pub fn respond(alloc: Global, server: Server, message: Incoming) -> Result<Step,
     ensures { IfOk result (IsStep server message) }
 {
     let before = before(alloc, &server, &message)?;
-    let turn = turn_of(alloc, server.phase, &message)?;
+    let turn = turn_of(alloc, &server, &message)?;
     let server = after(settled(server), message)?;
     Ok(Step {
         before,
