@@ -1,4 +1,4 @@
-//! Names: where each stands in a source, and what is declared by it or in sight under it there.
+//! The names of a source: the place of each, and its declaration.
 #![tactic(auto)]
 
 mod asking;
