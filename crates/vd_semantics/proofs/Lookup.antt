@@ -7,6 +7,7 @@ use Rattle.vd_base.specs.Names.{Named, at_name, changed}
 use Rattle.vd_base.proofs.Front.{at_append, changed_none}
 use Rattle.vd_semantics.specs.Functions.{in_text_order}
 use Rattle.vd_semantics.specs.SourceMeaning.{State, left_block}
+use Rattle.vd_semantics.specs.Wraps.{Scene, Watched, left_scene, scene}
 
 module _ {A : Type 0} (make : Function → Named A → A) where
   -- what the functions add stands behind
@@ -86,3 +87,10 @@ pub block_left : (before after now : Named Held) (n : ℕ) (u w : World) (t : St
 block_left before after now n u w t len cut is =
     ap (λ (z : Named Held). let s : State = record { env = z; world = w } in s) (cut ∙ ap (λ k. take k after) len)
     ∙ ap (left_block (record { env = before; world = u })) is
+
+-- the same where the world is watched
+pub block_left_watched : (before after now : Named Held) (n : ℕ) (u w : Watched) (t : Scene) → n ≡ length before → now ≡ take n after → ◌≡◌ {A = Scene} (scene after w) t
+    → ◌≡◌ {A = Scene} (scene now w) (left_scene (scene before u) t)
+block_left_watched before after now n u w t len cut is =
+    ap (λ (z : Named Held). let s : Scene = scene z w in s) (cut ∙ ap (λ k. take k after) len)
+    ∙ ap (left_scene (scene before u)) is

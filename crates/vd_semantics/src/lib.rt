@@ -9,9 +9,11 @@ mod program;
 mod source;
 mod stores;
 mod world;
+mod wraps;
 
 pub use comparisons::comparisons_order;
 pub use program::clear_core;
-pub use source::clear_source;
+pub use source::{SourceRun, clear_source, watch_source};
 pub use stores::{put_array, put_element, put_word, zeros};
 pub use world::World;
+pub use wraps::Wrap;
