@@ -8,3 +8,4 @@ mod Fitting
 mod Rights
 mod Walk
 mod Systems
+mod Wrapping

@@ -3,3 +3,4 @@ pub mod Sources
 pub mod Inputs
 pub mod Clear
 pub mod Labelling
+pub mod WhatWraps

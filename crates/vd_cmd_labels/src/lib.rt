@@ -4,12 +4,14 @@
 ghost use Rattle.vd_cmd_labels.specs.Outcomes.{TextOutcomes, LabelOutcomes};
 
 mod clear_command;
+mod clear_wraps;
 mod inputs;
 mod labels_command;
 mod labels_systems;
 mod sources;
 
 pub use clear_command::clear;
+pub use clear_wraps::what_wraps;
 pub use inputs::load_inputs;
 pub use labels_command::{labels, least_labels};
 pub use sources::{load_source, normal_program, read_source, resolve_source};
