@@ -11,3 +11,4 @@ mod Pure
 mod Alike
 mod Steps
 mod Offsets
+mod Wrapped

@@ -19,3 +19,4 @@ pub mod DiagChoiceRemarks
 pub mod Spent
 pub mod Barriers
 pub mod DiagBranchesPhrases
+pub mod Wraps

@@ -12,6 +12,7 @@ mod remarks;
 mod telling;
 mod words;
 mod wrong;
+mod wraps;
 
 pub use diag_branches::{barriers_are_what_is_not_pure, branch_remark};
 pub use diag_choice::{
@@ -21,3 +22,4 @@ pub use diag_flow::{flow_remark, flow_steps};
 pub use laws::{faults_are_shown_in_their_files, no_secret_is_told};
 pub use remarks::remark_on;
 pub use telling::{Destination, say_more, steps_on};
+pub use wraps::say_wraps;

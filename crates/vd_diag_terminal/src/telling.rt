@@ -109,7 +109,7 @@ fn all_told(
 }
 
 /// What is said where a file is not given: nothing, unless there was no memory for it.
-fn said_of_fault(alloc: Global, fault: FetchFault) -> Result<Bytes, TellFault>
+pub(crate) fn said_of_fault(alloc: Global, fault: FetchFault) -> Result<Bytes, TellFault>
     ensures { IfOk result (λ text. text ≡ []) }
 {
     match fault {
