@@ -12,18 +12,23 @@ use Rattle.vd_cmd_plan.specs.declared.status.Status.{Status}
 use Rattle.vd_cmd_plan.specs.declared.status.Status.TheVariants.{Memory}
 use Rattle.vd_diag.specs.declared.fault.TellFault.{TellFault}
 use Rattle.vd_diag_terminal.specs.Saying.{SaysTo}
+use Rattle.vd_diag_terminal.specs.Wraps.{SaysWraps}
 use Rattle.vd_diag_terminal.specs.declared.telling.Destination.{Destination}
 use Rattle.vd_top.specs.Promises.{Around, Starts}
 use Rattle.vd_shell.specs.Ahead.{wanted_by}
 
--- The command line was run, and ended with this status; then more was said of it to the person at a terminal.
+-- The command line was run, and ended with this status; then more was said of it to the person at a terminal, and of `clear` what wrapped.
 pub record IsRun (destination : Destination) (words : List (List ℕ)) (o : Around) (status : Status) : Type 0 where
-  -- the files and the error stream between the two
+  -- the files and the error stream behind the run, and then behind what was said of a fault
   pub files : FilesView
   pub err : SinkView
+  pub later_files : FilesView
+  pub later_err : SinkView
   pub starts : Starts words (record o { files = (o.files.0, files); err = (o.err.0, err) }) status
   pub said : Result (Unit {0}) TellFault
-  pub more : SaysTo destination words status files o.files.1 err o.err.1 said
+  pub more : SaysTo destination words status files later_files err later_err said
+  pub told : Result (Unit {0}) TellFault
+  pub wraps : SaysWraps destination words status later_files o.files.1 later_err o.err.1 told
 
 -- the objects that a run uses besides files, each before it and after it, and how many packets it says that hosts sent
 pub record Streams : Type 0 where

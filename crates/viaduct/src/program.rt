@@ -13,7 +13,7 @@ use std::process::ExitCode;
 use vd_base::Texts;
 use vd_channel_link::SealedNet;
 use vd_cmd_plan::{Status, tell};
-use vd_diag_terminal::{Destination, say_more};
+use vd_diag_terminal::{Destination, say_more, say_wraps};
 use vd_edge::{Directory, KeptFiles, RealFiles};
 use vd_outside::{Files, Marks, Net, Sink, Spawner};
 use vd_shell::read_ahead;
@@ -69,7 +69,7 @@ pub(crate) struct Ending {
 }
 
 /// Runs a command line over these objects, and says how that ended. Where the error stream goes to a terminal, and where more is asked
-/// for, it then says more of a fault.
+/// for, it then says more of a fault, and what wrapped in a run of `clear`.
 fn start_over<F: Files, M: Marks, O: Sink, E: Sink, N: Net + Drop, S: Spawner>(
     alloc: Global,
     destination: Destination,
@@ -85,6 +85,14 @@ fn start_over<F: Files, M: Marks, O: Sink, E: Sink, N: Net + Drop, S: Spawner>(
 
     // The line stands: where there is no memory to say more of it, no more is said.
     let _ = say_more(
+        alloc,
+        destination,
+        words,
+        &mut outside.files,
+        &mut outside.err,
+        &status,
+    );
+    let _ = say_wraps(
         alloc,
         destination,
         words,
