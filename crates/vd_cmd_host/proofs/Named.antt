@@ -46,7 +46,7 @@ by_call names peer call_fault.Memory small = tt
 by_greeting : (names : List (List ℕ)) (peer : Peer) (refusal : GreetFault) → peer.number < length names → PeersAreNamed names (greet_status peer refusal)
 by_greeting names peer greet_fault.Peer small = small
 by_greeting names peer (greet_fault.BadFrame offset byte) small = tt
-by_greeting names peer (greet_fault.WrongProgram ours theirs) small = tt
+by_greeting names peer (greet_fault.WrongProgram ours theirs) small = small
 by_greeting names peer (greet_fault.WrongHost wanted named) small = tt
 by_greeting names peer greet_fault.End small = small
 

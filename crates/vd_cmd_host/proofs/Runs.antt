@@ -36,7 +36,7 @@ module _ (files files_now : FilesView) (net net_now : NetView) (out out_now : Si
   cause_of names (fault.Peer peer) has = has
   cause_of names (fault.BadFrame offset byte) has = tt
   cause_of names (fault.Unequal left right) has = tt
-  cause_of names (fault.WrongProgram ours theirs) has = tt
+  cause_of names (fault.WrongProgram peer ours theirs) has = tt
   cause_of names (fault.WrongHost wanted named) has = tt
   cause_of names (fault.ShortInput cursor count) has = tt
   cause_of names (fault.ShortDeal kind cursor count) has = tt
@@ -49,7 +49,7 @@ never_ended names fault.Write e = cc e
 never_ended names (fault.Peer peer) e = cc e
 never_ended names (fault.BadFrame offset byte) e = cc e
 never_ended names (fault.Unequal left right) e = cc e
-never_ended names (fault.WrongProgram ours theirs) e = cc e
+never_ended names (fault.WrongProgram peer ours theirs) e = cc e
 never_ended names (fault.WrongHost wanted named) e = cc e
 never_ended names (fault.ShortInput cursor count) e = cc e
 never_ended names (fault.ShortDeal kind cursor count) e = cc e

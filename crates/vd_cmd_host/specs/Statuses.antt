@@ -10,6 +10,7 @@ use Rattle.vd_cmd_plan.specs.declared.status.Status.TheVariants.{Host, Memory, W
 -- the peer of a fault is one of the hosts
 abbrev pub PeersAreNamed : List (List ℕ) → HostFault → Type 0
 PeersAreNamed names (fault.Peer peer) = peer.0 < length names
+PeersAreNamed names (fault.WrongProgram peer ours theirs) = peer.0 < length names
 PeersAreNamed names (fault.EndOfLink peer) = peer.0 < length names
 PeersAreNamed names other = Unit {0}
 
@@ -20,7 +21,7 @@ status_of names fault.Write = WriteFault
 status_of names (fault.Peer peer) = Host (host_status.PeerFault (host_name names peer))
 status_of names (fault.BadFrame offset byte) = Host (host_status.BadFrame offset byte)
 status_of names (fault.Unequal left right) = Host (host_status.Unequal left right)
-status_of names (fault.WrongProgram ours theirs) = Host host_status.WrongProgram
+status_of names (fault.WrongProgram peer ours theirs) = Host (host_status.WrongProgram (host_name names peer) ours theirs)
 status_of names (fault.WrongHost wanted named) = Host (host_status.WrongHost wanted named)
 status_of names (fault.ShortInput cursor count) = Host (host_status.ShortInput cursor count)
 status_of names (fault.ShortDeal kind cursor count) = Host (host_status.ShortDeal kind cursor count)

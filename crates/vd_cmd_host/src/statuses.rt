@@ -28,7 +28,10 @@ pub(crate) fn status_of(names: Names, fault: HostFault) -> Status
         HostFault::Peer(peer) => Status::Host(HostStatus::PeerFault(host_name(names, peer))),
         HostFault::BadFrame(offset, byte) => Status::Host(HostStatus::BadFrame(offset, byte)),
         HostFault::Unequal(left, right) => Status::Host(HostStatus::Unequal(left, right)),
-        HostFault::WrongProgram(_, _) => Status::Host(HostStatus::WrongProgram),
+        HostFault::WrongProgram(peer, ours, theirs) => {
+            let name = host_name(names, peer);
+            Status::Host(HostStatus::WrongProgram(name, ours, theirs))
+        }
         HostFault::WrongHost(wanted, named) => Status::Host(HostStatus::WrongHost(wanted, named)),
         HostFault::ShortInput(cursor, count) => Status::Host(HostStatus::ShortInput(cursor, count)),
         HostFault::ShortDeal(kind, cursor, count) => {

@@ -28,7 +28,7 @@ pub(crate) fn write_host_status<E: Sink>(err: &mut E, status: &HostStatus) -> Re
                 u64::from(*right),
             )
         }
-        HostStatus::WrongProgram => write_parts(err, &[b"viaduct: wrong program\n"]),
+        HostStatus::WrongProgram(_, _, _) => write_parts(err, &[b"viaduct: wrong program\n"]),
         HostStatus::WrongHost(wanted, named) => {
             write_two(
                 err,

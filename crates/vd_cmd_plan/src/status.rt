@@ -47,8 +47,8 @@ pub enum HostStatus {
     BadFrame(u64, u8),
     /// Two words that are to be the same.
     Unequal(u32, u32),
-    /// A greeting came whole, by another plan.
-    WrongProgram,
+    /// A greeting came whole from this peer, by another plan: the digest of this host's plan, and that of the peer's.
+    WrongProgram(Name, [u8; 32], [u8; 32]),
     /// The host that a byte of a greeting should name, and the one that it names.
     WrongHost(u8, u8),
     /// An input past the end: how many were taken, and how many there are.
@@ -69,7 +69,7 @@ impl HostStatus {
             HostStatus::PeerFault(_) => 18,
             HostStatus::BadFrame(_, _) => 19,
             HostStatus::Unequal(_, _) => 20,
-            HostStatus::WrongProgram => 21,
+            HostStatus::WrongProgram(_, _, _) => 21,
             HostStatus::WrongHost(_, _) => 22,
             HostStatus::ShortInput(_, _) => 23,
             HostStatus::ShortDeal(_, _, _) => 24,

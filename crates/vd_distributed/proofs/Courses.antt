@@ -80,7 +80,7 @@ module _ (lists : Lists) (start : State) (plan : List ℕ) (me : ℕ) (link : �
   EndsAs events m (Ok done) = (m.pending ≡ Finished) × (IsTrue on.told → on.taken ≡ ob.taken ++ text_of (printed events))
   EndsAs events m (Err (fault.BadFrame offset byte)) = BadBytes offset byte events m
   EndsAs events m (Err (fault.Unequal left right)) = need m ≡ Unequal left right
-  EndsAs events m (Err (fault.WrongProgram ours theirs)) = (p : ℕ) × IsGreetFault (ends plan me p) (bytes_that_came (link p)) (greet_fault.WrongProgram ours theirs)
+  EndsAs events m (Err (fault.WrongProgram peer ours theirs)) = (p : ℕ) × IsGreetFault (ends plan me p) (bytes_that_came (link p)) (greet_fault.WrongProgram ours theirs)
   EndsAs events m (Err (fault.WrongHost wanted named)) = (p : ℕ) × IsGreetFault (ends plan me p) (bytes_that_came (link p)) (greet_fault.WrongHost wanted named)
   EndsAs events m (Err other) = Unit {0}
 

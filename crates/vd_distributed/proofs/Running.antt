@@ -467,7 +467,7 @@ module _ (program : NormalForm) (list : List Proto) (plan : Digest) (inputs : Li
   blames h (Ok done) e = tt
   blames h (Err (fault.BadFrame offset byte)) e = not_bad h offset byte e
   blames h (Err (fault.Unequal left right)) e = told.equal h left right e
-  blames h (Err (fault.WrongProgram ours theirs)) e = not_blamed h e.0 (greet_fault.WrongProgram ours theirs) tt e.1
+  blames h (Err (fault.WrongProgram peer ours theirs)) e = not_blamed h e.0 (greet_fault.WrongProgram ours theirs) tt e.1
   blames h (Err (fault.WrongHost wanted named)) e = not_blamed h e.0 (greet_fault.WrongHost wanted named) tt e.1
   blames h (Err other) e = tt
 

@@ -89,7 +89,7 @@ WritesUpTo before now text (Err cause) = (front : List ℕ) × IsPrefixOf front 
 abbrev pub BlamesNobody : Result Ended HostFault → Type 0
 BlamesNobody (Err (fault.BadFrame offset byte)) = ⊥
 BlamesNobody (Err (fault.Unequal left right)) = ⊥
-BlamesNobody (Err (fault.WrongProgram ours theirs)) = ⊥
+BlamesNobody (Err (fault.WrongProgram peer ours theirs)) = ⊥
 BlamesNobody (Err (fault.WrongHost wanted named)) = ⊥
 BlamesNobody other = Unit {0}
 

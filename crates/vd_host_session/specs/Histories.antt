@@ -78,7 +78,7 @@ call_status peer call_fault.Memory = fault.Memory
 abbrev pub greet_status : Peer → GreetFault → HostFault
 greet_status peer greet_fault.Peer = fault.Peer (host peer.number)
 greet_status peer (greet_fault.BadFrame offset byte) = fault.BadFrame offset byte
-greet_status peer (greet_fault.WrongProgram ours theirs) = fault.WrongProgram ours theirs
+greet_status peer (greet_fault.WrongProgram ours theirs) = fault.WrongProgram (host peer.number) ours theirs
 greet_status peer (greet_fault.WrongHost wanted named) = fault.WrongHost wanted named
 greet_status peer greet_fault.End = fault.EndOfLink (host peer.number)
 

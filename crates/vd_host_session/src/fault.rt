@@ -21,9 +21,9 @@ pub enum HostFault {
     /// Two words that are to be the same.
     #[error("the words {0} and {1} differ")]
     Unequal(u32, u32),
-    /// The digest of this host's plan, and that of a peer's.
+    /// This peer has another plan: the digest of this host's plan, and that of the peer's.
     #[error("a peer has another plan")]
-    WrongProgram(Digest, Digest),
+    WrongProgram(HostId, Digest, Digest),
     /// The host that a byte of a greeting should name, and the one that it names.
     #[error("a greeting names host {1} in place of host {0}")]
     WrongHost(u8, u8),

@@ -30,7 +30,7 @@ fn fault_of_greeting(peer: HostId, fault: GreetFault) -> HostFault
     match fault {
         GreetFault::Peer => HostFault::Peer(peer),
         GreetFault::BadFrame(offset, byte) => HostFault::BadFrame(offset, byte),
-        GreetFault::WrongProgram(ours, theirs) => HostFault::WrongProgram(ours, theirs),
+        GreetFault::WrongProgram(ours, theirs) => HostFault::WrongProgram(peer, ours, theirs),
         GreetFault::WrongHost(wanted, named) => HostFault::WrongHost(wanted, named),
         GreetFault::End => HostFault::EndOfLink(peer),
     }
