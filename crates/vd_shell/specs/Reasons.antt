@@ -1,6 +1,7 @@
 -- The line that tells a person why a call of the outside failed.
 use Rattle.std.specs.Prelude.{◌≡◌, ◌⊎◌, ℕ, List, [], ◌∷◌, ◌++◌, codes, Option, None, Some, slice_get, nat_eq, option_map, if◌then◌else◌}
 use Rattle.std.specs.Fmt.{decimal}
+use Rattle.vd_base_codec.specs.Digits.{key_text}
 use Rattle.vd_cmd.specs.declared.command.Command.{Command}
 use Rattle.vd_cmd.specs.declared.command.Command.TheVariants.{Host}
 use Rattle.vd_cmd.specs.declared.command.HostWords.{HostWords}
@@ -47,6 +48,10 @@ address_part (Some address) = codes " at " ++ address
 -- what was done for which peer, at which address, and what the system says of it
 abbrev pub peer_text : Option (List ℕ) → PeerReason → List ℕ
 peer_text peer reason = call_text reason.call ++ (codes " " ++ (peer_part peer ++ (address_part reason.address ++ (codes ": " ++ reason.cause))))
+
+-- which plan a peer has, and which one this host
+abbrev pub plans_text : (peer ours theirs : List ℕ) → List ℕ
+plans_text peer ours theirs = peer ++ (codes " has plan " ++ (key_text theirs ++ (codes ", and this host plan " ++ key_text ours)))
 
 -- one packet, or so many packets
 abbrev pub noun_of : ℕ → List ℕ

@@ -4,10 +4,11 @@ ghost use Rattle.std.specs.Prelude.{◌≡◌, ◌++◌, OnErr, OnOk, IfOk, code
 ghost use Rattle.vd_cmd_plan.specs.Lines.{Says};
 ghost use Rattle.vd_cmd_plan.specs.Shown.{shown};
 ghost use Rattle.vd_shell.specs.PacketsRead.{PacketsAreRead};
-ghost use Rattle.vd_shell.specs.Reasons.{address_part, first_text, host_part, noun_of, packets_text, peer_part, peer_text, reason_line, seal_text, seal_words, sent_text, speaker};
+ghost use Rattle.vd_shell.specs.Reasons.{address_part, first_text, host_part, noun_of, packets_text, peer_part, peer_text, plans_text, reason_line, seal_text, seal_words, sent_text, speaker};
 
 use std::alloc::{AllocError, Global};
 use vd_base::{Bytes, Text};
+use vd_base_codec::push_key;
 use vd_channel_link::SealFault;
 use vd_cmd_plan::shown_byte;
 use vd_edge::PeerReason;
@@ -110,6 +111,24 @@ pub(crate) fn text_of_first(
     push_host(&mut text, alloc, host, number)?;
     let status = format!(in alloc; " ended first, with status {status}")?;
     text.extend_from_slice(status.as_str().as_bytes())?;
+    Ok(text)
+}
+
+/// Which plan a peer has, and which one this host.
+pub(crate) fn text_of_plans(
+    alloc: Global,
+    peer: &[u8],
+    ours: &[u8],
+    theirs: &[u8],
+) -> Result<Bytes, AllocError>
+    ensures { IfOk result (λ text. text ≡ plans_text peer.now ours.now theirs.now) }
+{
+    let mut text = Bytes::new(alloc);
+    text.extend_from_slice(peer)?;
+    text.extend_from_slice(b" has plan ")?;
+    push_key(&mut text, theirs)?;
+    text.extend_from_slice(b", and this host plan ")?;
+    push_key(&mut text, ours)?;
     Ok(text)
 }
 

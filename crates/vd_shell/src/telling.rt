@@ -2,10 +2,12 @@
 
 ghost use Rattle.std.specs.Prelude.{◌≡◌, ◌∷◌, ◌++◌, [], IfOk, None, OnOk, codes, option_map, string_bytes};
 ghost use Rattle.vd_shell.specs.Reasons.{reason_line, sent_text};
-ghost use Rattle.vd_shell.specs.Telling.{Tells, anew_text, child_lines, child_text, fault_lines, file_lines, host_at, lines_of, link_lines, mark_lines, passed_text, peer_of, peer_reason, success_lines};
+ghost use Rattle.vd_shell.specs.Telling.{Tells, anew_text, child_lines, child_text, fault_lines, file_lines, host_at, lines_of, link_lines, mark_lines};
+ghost use Rattle.vd_shell.specs.Telling.{passed_text, peer_of, peer_reason, plan_lines, plan_text, success_lines};
 
 use crate::reasons::{
-    tell_reason, text_of_first, text_of_packets, text_of_peer, text_of_seal, text_of_sent,
+    tell_reason, text_of_first, text_of_packets, text_of_peer, text_of_plans, text_of_seal,
+    text_of_sent,
 };
 use std::alloc::{AllocError, Global};
 use vd_base::{Bytes, Text};
@@ -159,6 +161,19 @@ fn peer_reason(
     }
 }
 
+/// Which plans met, where a status tells that they differ.
+fn plan_reason(alloc: Global, status: &Status) -> Result<Option<Bytes>, AllocError>
+    ensures { IfOk result (λ text. text ≡ plan_text status.now) }
+{
+    match status {
+        Status::Host(HostStatus::WrongProgram(peer, ours, theirs)) => {
+            let text = text_of_plans(alloc, peer.as_slice(), ours, theirs)?;
+            Ok(Some(text))
+        }
+        _ => Ok(None),
+    }
+}
+
 /// Which host of a run was the first to end with a fault, where one did.
 fn first_reason(
     alloc: Global,
@@ -219,6 +234,36 @@ fn tell_links<E: Sink>(
     tell_some(alloc, host, err, bytes_of(&peer))
 }
 
+/// Tells which plans met, where they differ.
+#[tactic(auto, using(crate::proofs::InTurn::tells_as))]
+fn tell_plans<E: Sink>(
+    alloc: Global,
+    host: &Option<Bytes>,
+    status: &Status,
+    err: &mut E,
+) -> Result<(), AllocError>
+    ensures { OnOk result (Tells (plan_lines host.now status.now) (E.view err.old) (E.view err.new)) }
+{
+    let plans = plan_reason(alloc, status)?;
+    tell_some(alloc, host, err, bytes_of(&plans))
+}
+
+/// Tells why no peer was met, or why the link to one failed.
+#[tactic(auto, using(crate::proofs::InTurn::then_tells))]
+fn tell_peers<E: Sink>(
+    alloc: Global,
+    host: &Option<Bytes>,
+    status: &Status,
+    reasons: &Reasons,
+    err: &mut E,
+) -> Result<(), AllocError>
+    ensures { OnOk result (Tells (plan_lines host.now status.now ++ link_lines host.now status.now reasons.now)
+        (E.view err.old) (E.view err.new)) }
+{
+    tell_plans(alloc, host, status, err)?;
+    tell_links(alloc, host, status, reasons, err)
+}
+
 /// Tells why a program could not be started, and else which host of a run was the first to end with a fault.
 #[tactic(auto, using(crate::proofs::InTurn::tells_as))]
 fn tell_children<E: Sink>(
@@ -261,10 +306,11 @@ fn tell_others<E: Sink>(
     reasons: &Reasons,
     err: &mut E,
 ) -> Result<(), AllocError>
-    ensures { OnOk result (Tells (link_lines host.now status.now reasons.now ++ child_lines status.now reasons.now)
+    ensures { OnOk result (Tells
+        ((plan_lines host.now status.now ++ link_lines host.now status.now reasons.now) ++ child_lines status.now reasons.now)
         (E.view err.old) (E.view err.new)) }
 {
-    tell_links(alloc, host, status, reasons, err)?;
+    tell_peers(alloc, host, status, reasons, err)?;
     tell_children(alloc, status, reasons, err)
 }
 
@@ -283,21 +329,18 @@ pub fn tell_fault<E: Sink>(
     tell_others(alloc, host, status, reasons, err)
 }
 
-/// How many packets went over the links of a host, where a host was run and they were counted.
+/// How many packets went over the links of a host, where a host was run.
 fn passed_text(
     alloc: Global,
     host: &Option<Bytes>,
-    passed: Option<(u64, u64)>,
+    passed: (u64, u64),
 ) -> Result<Option<String>, AllocError>
     ensures { IfOk result (λ text. option_map string_bytes text ≡ passed_text host.now passed) }
 {
     if host.is_none() {
         return Ok(None);
     }
-    match passed {
-        Some(passed) => Ok(Some(text_of_packets(alloc, passed)?)),
-        None => Ok(None),
-    }
+    Ok(Some(text_of_packets(alloc, passed)?))
 }
 
 /// How many packets the hosts of a replay sent, where it ran any.
@@ -324,7 +367,7 @@ fn string_of(text: &Option<String>) -> Option<&[u8]>
 pub fn tell_success<E: Sink>(
     alloc: Global,
     host: &Option<Bytes>,
-    passed: Option<(u64, u64)>,
+    passed: (u64, u64),
     sent: Option<u64>,
     err: &mut E,
 ) -> Result<(), AllocError>

@@ -6,7 +6,7 @@ use Rattle.vd_shell.specs.Telling.{Tells, fault_lines, success_lines}
 use Rattle.vd_shell.specs.declared.telling.Reasons.{Reasons}
 use Rattle.viaduct.specs.Telling.{TellsPackets, TellsReasons}
 
-pub packets_told : {E : Type 0} (sent : Option ℕ) (is_host : Option (List ℕ) → Type 0) (is_passed : Option (ℕ × ℕ) → Type 0) (host : Option (List ℕ)) (passed : Option (ℕ × ℕ)) (before now : SinkView)
+pub packets_told : {E : Type 0} (sent : Option ℕ) (is_host : Option (List ℕ) → Type 0) (is_passed : ℕ × ℕ → Type 0) (host : Option (List ℕ)) (passed : ℕ × ℕ) (before now : SinkView)
     (result : Result (Unit {0}) E) → is_host host → is_passed passed → OnOk result (Tells (success_lines host passed sent) before now) → OnOk result (TellsPackets sent is_host is_passed before now)
 packets_told sent is_host is_passed host passed before now (Ok done) known counted told = (host, passed, known, counted, told)
 packets_told sent is_host is_passed host passed before now (Err fault) known counted told = tt

@@ -31,10 +31,10 @@ telling_of caller Ended = success_telling caller.destination
 telling_of caller status = fault_telling caller.told caller.readable
 
 -- the packets were told that the objects know
-abbrev pub TellsPackets : (sent : Option ℕ) → (is_host : Option (List ℕ) → Type 0) → (is_passed : Option (ℕ × ℕ) → Type 0)
+abbrev pub TellsPackets : (sent : Option ℕ) → (is_host : Option (List ℕ) → Type 0) → (is_passed : ℕ × ℕ → Type 0)
     → (before now : SinkView) → Type 0
 TellsPackets sent is_host is_passed before now =
-    (host : Option (List ℕ)) × (passed : Option (ℕ × ℕ)) × is_host host × is_passed passed
+    (host : Option (List ℕ)) × (passed : ℕ × ℕ) × is_host host × is_passed passed
     × Tells (success_lines host passed sent) before now
 
 -- so were the reasons
@@ -44,7 +44,7 @@ TellsReasons status is_host is_reasons before now =
 
 -- what was told, by what the objects know
 abbrev pub IsTold : Telling → Status → (sent : Option ℕ) → (is_host : Option (List ℕ) → Type 0)
-    → (is_passed : Option (ℕ × ℕ) → Type 0) → (is_reasons : Reasons → Type 0)
+    → (is_passed : ℕ × ℕ → Type 0) → (is_reasons : Reasons → Type 0)
     → (before now : SinkView) → Type 0
 IsTold telling.Nothing status sent is_host is_passed is_reasons before now = now ≡ before
 IsTold telling.Packets status sent is_host is_passed is_reasons before now = TellsPackets sent is_host is_passed before now

@@ -111,8 +111,8 @@ pub(crate) trait Known {
     /// By this name the host of the command line speaks.
     ghost is_host: { Option (List ℕ) → Type 0 };
 
-    /// So many packets a host sent over links that are not sealed, and so many came to it.
-    ghost is_passed: { Option (ℕ × ℕ) → Type 0 };
+    /// So many packets a host sent over its links, and so many came to it.
+    ghost is_passed: { ℕ × ℕ → Type 0 };
 
     /// For these reasons calls failed.
     ghost is_reasons: { Reasons → Type 0 };
@@ -121,8 +121,8 @@ pub(crate) trait Known {
     fn host(&mut self, alloc: Global, words: &Texts) -> Option<Bytes>
         ensures { is_host result };
 
-    /// How many packets a host sent and how many came to it; of sealed links they are not counted.
-    fn passed(&self) -> Option<(u64, u64)>
+    /// How many packets a host sent and how many came to it.
+    fn passed(&self) -> (u64, u64)
         ensures { is_passed result };
 
     /// Why calls failed.

@@ -138,12 +138,8 @@ impl Known for Objects {
         }
     }
 
-    fn passed(&self) -> Option<(u64, u64)> {
-        // Over sealed links packets go in records, which the net below does not count.
-        match self.net.seal {
-            None => Some(self.net.net.packets()),
-            Some(_) => None,
-        }
+    fn passed(&self) -> (u64, u64) {
+        self.net.net.packets()
     }
 
     fn reasons(&mut self, alloc: Global) -> Result<Reasons, AllocError> {
