@@ -38,15 +38,24 @@ fn from_byte(alloc: Global, offset: u32, said: &[u8]) -> Result<Bytes, AllocErro
     three(alloc, b"from byte ", buffer.format(offset).as_bytes(), said)
 }
 
+/// What is said of a deal file behind this offset: whether the number of hosts is another one, or that of the host.
+fn deal_said(offset: u32) -> &'static str
+    ensures { result.now ≡ files.deal_said offset }
+{
+    if offset == 15 {
+        " on no deal of this program goes on as this file does: there stands the number of its hosts"
+    } else if offset == 17 {
+        " on no deal of this host goes on as this file does: there stands the number of the host whose deal it is"
+    } else {
+        " on no deal file goes on as this file does; `viaduct deal` makes deal files"
+    }
+}
+
 /// What is said of a deal file that goes on as no deal does from this byte on.
 pub fn deal_sentence(alloc: Global, offset: u32) -> Result<Bytes, AllocError>
     ensures { IfOk result (λ text. text ≡ files.deal_sentence offset) }
 {
-    from_byte(
-        alloc,
-        offset,
-        b" on no deal file goes on as this file does; `viaduct deal` makes deal files",
-    )
+    from_byte(alloc, offset, deal_said(offset).as_bytes())
 }
 
 /// What is said of a certificate that goes on as none does from this byte on.
