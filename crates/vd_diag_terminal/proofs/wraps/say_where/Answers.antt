@@ -8,4 +8,4 @@ pub returns-in-Asked : goal.returns-in-Asked
 returns-in-Asked g c = rw c.in-Asked.is c.say_of_clear.ensures
 
 pub returns-in-Terminal : goal.returns-in-Terminal
-returns-in-Terminal g c = rw c.in-Terminal.is c.say_of_clear.ensures
+returns-in-Terminal g c = rw c.in-Terminal.is c.say_of_clear-in-Terminal.ensures
