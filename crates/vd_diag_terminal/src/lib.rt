@@ -11,8 +11,8 @@ mod programs;
 mod remarks;
 mod telling;
 mod words;
-mod wrong;
 mod wraps;
+mod wrong;
 
 pub use diag_branches::{barriers_are_what_is_not_pure, branch_remark};
 pub use diag_choice::{
