@@ -17,3 +17,4 @@ mod Reported
 mod ReportRefusing
 mod RunsRead
 mod WaysNamed
+mod Written

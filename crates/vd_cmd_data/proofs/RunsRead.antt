@@ -77,11 +77,14 @@ numbers_end (n ∷ words) rest are =
     ∙ line_end (decimal n) (flat_map number_line words ++ rest) (number_text n (small n are.0))
     ∙ ap (λ (l : List (List ℕ)). decimal n ∷ l) (numbers_end words rest are.1)
 
+some : (b : ℕ) (bytes : List ℕ) → 0 < length (b ∷ bytes)
+some b bytes = omega arith
+
 solid_listening : IsText (codes "listening")
-solid_listening = (refl, omega arith)
+solid_listening = (refl, some 108 (codes "istening"))
 
 solid_ended : IsText (codes "ended")
-solid_ended = (refl, omega arith)
+solid_ended = (refl, some 101 (codes "nded"))
 
 abbrev host_words : List ℕ → List (List ℕ)
 host_words words = (codes "listening" ∷ map decimal words) ++ codes "ended" ∷ []

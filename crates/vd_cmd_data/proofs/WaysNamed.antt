@@ -61,14 +61,24 @@ none_in = record { low = omega arith; high = omega arith }
 no_turn : (a : Span) → Within 0 (times 0 a)
 no_turn a = record { low = omega arith; high = omega arith }
 
-more_low : (x p m n : ℕ) → x ≤ m → min p (2 ^ 64 - 1) ≤ n → min (x + p) (2 ^ 64 - 1) ≤ m + n
-more_low x p m n h l = omega (arith, h, l)
+capped_one : (x p m n : ℕ) → x ≤ m → min p (2 ^ 64 - 1) ≤ n → min (x + p) (2 ^ 64 - 1) ≤ m + n
+capped_one x p m n h l = omega (arith, h, l)
 
-more_high : (x p m n : ℕ) → m ≤ x → n ≤ min p (2 ^ 64 - 1) → m + n < 2 ^ 64 → m + n ≤ min (x + p) (2 ^ 64 - 1)
-more_high x p m n h l few = omega (arith, h, l, few)
+within_one : (x p m n : ℕ) → m ≤ x → n ≤ min p (2 ^ 64 - 1) → m + n < 2 ^ 64 → m + n ≤ min (x + p) (2 ^ 64 - 1)
+within_one x p m n h l few = omega (arith, h, l, few)
+
+more_low : (x left m n : ℕ) → x ≤ m → min (left * x) (2 ^ 64 - 1) ≤ n → min (suc left * x) (2 ^ 64 - 1) ≤ m + n
+more_low x left m n h l =
+    let split : suc left * x ≡ x + left * x = omega arith in
+    subst (λ (k : ℕ). min k (2 ^ 64 - 1) ≤ m + n) (sym split) (capped_one x (left * x) m n h l)
+
+more_high : (x left m n : ℕ) → m ≤ x → n ≤ min (left * x) (2 ^ 64 - 1) → m + n < 2 ^ 64 → m + n ≤ min (suc left * x) (2 ^ 64 - 1)
+more_high x left m n h l few =
+    let split : suc left * x ≡ x + left * x = omega arith in
+    subst (λ (k : ℕ). m + n ≤ min k (2 ^ 64 - 1)) (sym split) (within_one x (left * x) m n h l few)
 
 turn_more : (m n left : ℕ) (a : Span) → Within m a → Within n (times left a) → m + n < 2 ^ 64 → Within (m + n) (times (suc left) a)
-turn_more m n left a w v few = record { low = more_low a.least (left * a.least) m n w.low v.low; high = more_high a.most (left * a.most) m n w.high v.high few }
+turn_more m n left a w v few = record { low = more_low a.least left m n w.low v.low; high = more_high a.most left m n w.high v.high few }
 
 at_number : (m n : ℕ) (a : Span) → m ≡ n → Within m a → Within n a
 at_number m n a same w = subst (λ (k : ℕ). Within k a) same w
@@ -220,7 +230,14 @@ module _ (source : List ℕ) (slots : List Slot) (host : HostId) where
       → AreAllPlaced (if t then place ∷ [] else []) b (if t then telling ∷ [] else []) a
   output_placed false telling place b a name kind before after = tt
   output_placed true telling place b a name kind before after =
-      (record { place = place; among = inl refl; name = name; is_bool = kind; fits = and_from (is_within b place.around.before) (is_within a place.around.after) (is_so b place.around.before before) (is_so a place.around.after after) }, tt)
+      let same : a ≡ 0 + a = omega arith in
+      (subst (λ (n : ℕ). IsPlaced (place ∷ []) telling b n) same (record {
+        place = place;
+        among = inl refl;
+        name = name;
+        is_bool = kind;
+        fits = and_from (is_within b place.around.before) (is_within a place.around.after) (is_so b place.around.before before) (is_so a place.around.after after);
+      }), tt)
 
   output_good : (slot : SlotId) (to : HostId) (offset : ℕ) → Good (brings_step source slots host (Stmt-F.Output slot to offset)) (walk_step source slots host (Stmt-F.Output slot to offset))
   output_good slot to offset = record {

@@ -33,7 +33,7 @@ fn value_len(text: &[u8]) -> usize
 }
 
 /// What the line of an output tells.
-#[tactic(auto, using(crate::proofs::Written::nothing_told))]
+#[tactic(auto, using(crate::proofs::Written::nothing_told, crate::proofs::Written::behind_word))]
 fn written_value(line: &[u8]) -> &[u8]
     ensures { result.now ≡ names.written_value line.now }
 {

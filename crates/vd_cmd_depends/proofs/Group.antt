@@ -57,23 +57,30 @@ module _ (hosts names : List (List ℕ)) where
       none_dropped [] = refl
       none_dropped (x ∷ xs) = refl
 
-  next : (place : ℕ) → place < length names → as_hosts hosts (drop place names) ≡ host_before (as_host hosts (get_or names place [])) (as_hosts hosts (drop (place + 1) names))
+  -- the name at a place, whatever stands past the end
+  abbrev IsAt : List ℕ → ℕ → List ℕ → Type 0
+  IsAt name place past = name ≡ get_or names place past
+
+  next : (place : ℕ) (name past : List ℕ) → IsAt name place past → place < length names
+      → as_hosts hosts (drop place names) ≡ host_before (as_host hosts name) (as_hosts hosts (drop (place + 1) names))
   unfolding as_hosts
-  next place low = ap (as_hosts hosts) (drop_more names place [] low)
+  next place name past is low =
+      ap (as_hosts hosts) (drop_more names place past low) ∙ ap (λ (n : List ℕ). host_before (as_host hosts n) (as_hosts hosts (drop (place + 1) names))) (sym is)
 
-  pub one_more : (place : ℕ) (group : List HostId) (h : HostId) → place < length names → Begun place group → Checks (as_host hosts (get_or names place [])) (Ok h) → Begun (place + 1) (group ++ h ∷ [])
-  one_more place group h low so_far checks =
+  pub one_more : (place : ℕ) (name past : List ℕ) → IsAt name place past → place < length names → (group : List HostId) (h : HostId) → Begun place group → Checks (as_host hosts name) (Ok h)
+      → Begun (place + 1) (group ++ h ∷ [])
+  one_more place name past is low group h so_far checks =
       let rest = as_hosts hosts (drop (place + 1) names) in
-      so_far ∙ ap (behind group) (next place low ∙ ap (λ (first : Result HostId Status). host_before first rest) checks.ok) ∙ one_behind group h rest
+      so_far ∙ ap (behind group) (next place name past is low ∙ ap (λ (first : Result HostId Status). host_before first rest) checks.ok) ∙ one_behind group h rest
 
-  pub one_refused : (place : ℕ) (group : List HostId) (status : Status) → place < length names → Begun place group → Checks {T = HostId} (as_host hosts (get_or names place [])) (Err status)
-      → Checks {T = List HostId} (as_hosts hosts names) (Err status)
-  one_refused place group status low so_far checks =
+  pub one_refused : (place : ℕ) (name past : List ℕ) → IsAt name place past → place < length names → (group : List HostId) (status : Status) → Begun place group
+      → Checks {T = HostId} (as_host hosts name) (Err status) → Checks {T = List HostId} (as_hosts hosts names) (Err status)
+  one_refused place name past is low group status so_far checks =
       let rest = as_hosts hosts (drop (place + 1) names) in
       record {
         ok = tt;
-        err = subst (λ (whole : Group). IsRefusal whole status) (sym (so_far ∙ ap (behind group) (next place low)))
-            (refused (λ first. behind group (host_before first rest)) (λ s. refl) (as_host hosts (get_or names place [])) status checks.err);
+        err = subst (λ (whole : Group). IsRefusal whole status) (sym (so_far ∙ ap (behind group) (next place name past is low)))
+            (refused (λ first. behind group (host_before first rest)) (λ s. refl) (as_host hosts name) status checks.err);
       }
 
   ended : (place : ℕ) → length names ≤ place → as_hosts hosts (drop place names) ≡ Ok []
@@ -94,17 +101,17 @@ are_named : (hosts names : List (List ℕ)) (group : List HostId) → as_hosts h
 unfolding as_hosts
 are_named hosts [] [] is = tt
 are_named hosts [] (h ∷ group) is = absurd (cc is)
-are_named hosts (name ∷ names) group is = at (as_host hosts name) refl (as_hosts hosts names) refl group is
+are_named hosts (name ∷ names) group is = at (are_named hosts names) (as_host hosts name) refl (as_hosts hosts names) refl group is
   where
-    at : (first : Result HostId Status) → as_host hosts name ≡ first → (rest : Group) → as_hosts hosts names ≡ rest → (group : List HostId) → host_before first rest ≡ Ok group → AreNamed hosts (name ∷ names) group
-    at (Err status) e rest f group is = absurd (cc is)
-    at (Ok h) e (Err status) f group is = absurd (cc is)
-    at (Ok h) e (Ok others) f [] is = absurd (cc is)
-    at (Ok h) e (Ok others) f (k ∷ group) is =
+    at : ((some : List HostId) → as_hosts hosts names ≡ Ok some → AreNamed hosts names some) → (first : Result HostId Status) → as_host hosts name ≡ first → (rest : Group) → as_hosts hosts names ≡ rest → (group : List HostId) → host_before first rest ≡ Ok group → AreNamed hosts (name ∷ names) group
+    at more (Err status) e rest f group is = absurd (cc is)
+    at more (Ok h) e (Err status) f group is = absurd (cc is)
+    at more (Ok h) e (Ok others) f [] is = absurd (cc is)
+    at more (Ok h) e (Ok others) f (k ∷ group) is =
         let both : h ∷ others ≡ k ∷ group = cc is in
         let first : h ≡ k = cc both in
         let rest : others ≡ group = cc both in
-        (named hosts name k (e ∙ ap (λ (x : HostId). Ok x) first), are_named hosts names group (f ∙ ap (λ (hs : List HostId). Ok hs) rest))
+        (named hosts name k (e ∙ ap (λ (x : HostId). Ok x) first), more group (f ∙ ap (λ (hs : List HostId). Ok hs) rest))
 
 pub group_named : (hosts names : List (List ℕ)) (group : List HostId) → AreNamed hosts names group → map (host_of hosts) names ≡ map (λ h. Some h.0) group
 group_named hosts [] [] are = refl

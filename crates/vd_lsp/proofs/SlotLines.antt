@@ -11,8 +11,11 @@ use Rattle.vd_core.specs.declared.normal.NormalForm.{NormalForm}
 use Rattle.vd_core.specs.declared.normal.Slot.{Slot}
 use Rattle.vd_formula.specs.declared.label.Label.{Label}
 use Rattle.vd_parser.specs.declared.fault.ParseFault.TheVariants as parse_fault
-use Rattle.vd_lsp.specs.Hovers.{given, lines_behind, program_lines, source_lines, text_lines, tree_lines}
+use Rattle.vd_constraints.specs.declared.labels.Labels.{Labels}
+use Rattle.vd_cmd_labels.specs.Labelling.{labels_of}
+use Rattle.vd_lsp.specs.Hovers.{given, label_lines, lines_behind, program_lines, text_lines, tree_lines}
 use Rattle.vd_lsp.specs.Outcomes.{next}
+use Rattle.vd_lsp.proofs.Outcomes.{made}
 
 -- a refusal for another reason than memory is that of what was wanted
 refused_with : {T : Type 0} (wanted : Result T Status) (status : Status) → (status ≡ Memory → ⊥) → IsRefusal wanted status → wanted ≡ Err status
@@ -35,6 +38,12 @@ none_given wanted status lines checks other none = none ∙ ap given (sym (refus
 pub long_given : (texts : TextOutcomes) (least : LabelOutcomes) (uri text name : List ℕ) (statement : Option ℕ) → most_source_bytes < length text → given (text_lines texts least uri text name statement) ≡ []
 long_given texts least uri text name statement over =
     ap (λ r. given (next r (tree_lines least name statement))) (parsed texts uri text (Err (parse_fault.TooLong (length text))) (inr (over, refl)) (λ e. cc e))
+
+pub program_given : (least : LabelOutcomes) (name : List ℕ) (statement : Option ℕ) (program : NormalForm) (labels : Labels) (lines : List (List ℕ)) → Checks (labels_of least program) (Ok labels)
+    → lines ≡ label_lines name statement program labels → Checks (program_lines least name statement program) (Ok lines)
+program_given least name statement program labels lines checks is =
+    made (labels_of least program) (λ (l : Labels). Ok (label_lines name statement program l)) labels (Ok lines) checks
+    (record { ok = ap {B = Result (List (List ℕ)) Status} (λ (l : List (List ℕ)). Ok l) (sym is); err = tt })
 
 pub of_form : (least : LabelOutcomes) (name : List ℕ) (statement : Option ℕ) (program form : NormalForm) (result : Result (List (List ℕ)) Status) → program ≡ form
     → Checks (program_lines least name statement program) result → Checks (program_lines least name statement form) result

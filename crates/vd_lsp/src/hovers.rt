@@ -133,6 +133,7 @@ fn label_lines(
 }
 
 /// The lines of a program, or the first check that fails.
+#[tactic(auto, using(crate::proofs::SlotLines::program_given))]
 fn program_lines(
     alloc: Global,
     name: &[u8],

@@ -12,8 +12,10 @@ returns-in_err-resolved-clause-executes g c = λ texts least outcomes.
 
 pub returns-clause-executes : goal.returns-clause-executes
 returns-clause-executes g c = λ texts least outcomes.
-    (c.in_ok-resolved.ensures {u = tt}).loads texts (λ tree. program_plan least outcomes c.args.names.now (run_form least (normal_form tree))) _ _ (c.depends_in_source.ensures.executes least outcomes _)
+    rw (← c.as_slice.ensures)
+    ((c.in_ok-resolved.ensures {u = tt}).loads texts (λ tree. program_plan least outcomes c.as_slice.result.now (run_form least (normal_form tree))) _ _ (c.depends_in_source.ensures.executes least outcomes _))
 
 pub returns-clause-tells : goal.returns-clause-tells
 returns-clause-tells g c =
-    dependence_told c.args.source.now c.args.names.now (g.F.Files.view c.args.files.now) c.in_ok-resolved.resolved _ (c.in_ok-resolved.ensures {u = tt}).given c.depends_in_source.ensures.tells
+    rw (← c.as_slice.ensures)
+    (dependence_told c.args.source.now c.as_slice.result.now (g.F.Files.view c.args.files.now) c.in_ok-resolved.resolved _ (c.in_ok-resolved.ensures {u = tt}).given c.depends_in_source.ensures.tells)

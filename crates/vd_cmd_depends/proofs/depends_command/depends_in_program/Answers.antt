@@ -24,9 +24,9 @@ returns-in_err-sets-clause-executes c = λ least outcomes files.
 pub returns-clause-executes : goal.returns-clause-executes
 returns-clause-executes c = λ least outcomes files.
     answered c.args.names.now c.args.program.now least outcomes files c.form.result.now.hosts (ap (λ (f : NormalForm). f.hosts) c.form.ensures.same) c.in_ok-group.group c.in_ok-labels.labels c.in_ok-sets.sets _
-    c.form.ensures.well_made (c.in_ok-group.ensures {u = tt}) ((c.in_ok-labels.ensures {u = tt}).checks least) (c.in_ok-labels.ensures {u = tt}).least (c.in_ok-sets.ensures {u = tt}) c.line_answer.ensures
+    c.form.ensures.well_made (c.in_ok-group.ensures {u = tt}) ((c.in_ok-labels.ensures {u = tt}).checks least) (c.in_ok-labels.ensures {u = tt}).least (rw c.as_slice.ensures at (c.in_ok-sets.ensures {u = tt})) (rw (c.as_slice-2.ensures, c.as_slice-3.ensures) at c.line_answer.ensures)
 
 pub returns-clause-tells : goal.returns-clause-tells
 returns-clause-tells c =
     told c.args.names.now c.args.program.now c.form.result.now.hosts c.in_ok-group.group c.in_ok-labels.labels c.in_ok-sets.sets _ c.form.ensures.well_made (ap (λ (f : NormalForm). f.hosts) c.form.ensures.same)
-    (c.in_ok-group.ensures {u = tt}) (c.in_ok-labels.ensures {u = tt}).least (c.in_ok-sets.ensures {u = tt}) c.line_answer.ensures
+    (c.in_ok-group.ensures {u = tt}) (c.in_ok-labels.ensures {u = tt}).least (rw c.as_slice.ensures at (c.in_ok-sets.ensures {u = tt})) (rw (c.as_slice-2.ensures, c.as_slice-3.ensures) at c.line_answer.ensures)
