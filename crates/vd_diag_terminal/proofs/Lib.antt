@@ -12,3 +12,4 @@ mod Alike
 mod Steps
 mod Offsets
 mod Wrapped
+mod Ranges

@@ -39,8 +39,9 @@ fn candidates(
 {
     let mut places = Items::new(alloc);
     for place in 0..list.len() {
-        let test = is_candidate_at(problem, list, making, place as u32);
-        push_if(&mut places, place as u32, test)?;
+        let number = place as u32;
+        let test = is_candidate_at(problem, list, making, number);
+        push_if(&mut places, number, test)?;
     }
     Ok(places)
 }

@@ -38,7 +38,8 @@ fn add_operands(
 ) -> Result<(), AllocError>
     ensures { OnOk result (offsets.new ≡ offsets.old ++ flat_map (λ y. steps.two offset) operands.now) }
 {
-    for _operand in operands {
+    for operand in operands {
+        let _ = operand;
         add_two(offsets, offset)?;
     }
     Ok(())

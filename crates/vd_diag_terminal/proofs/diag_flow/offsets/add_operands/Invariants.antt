@@ -3,5 +3,5 @@ use Rattle.std.specs.List.{flat_map}
 use Rattle.vd_diag_terminal.specs.FlowSteps.{two}
 use Rattle.vd_diag_terminal.proofs.diag_flow.offsets.add_operands.Given as goal
 
-abbrev pub invariant-loop-_operand : goal.invariant-loop-_operand
-invariant-loop-_operand l = l.offsets ++ flat_map (λ y. two l.offset) (drop l._operand-index l.operands) ≡ l.initial.offsets ++ flat_map (λ y. two l.offset) l.operands
+abbrev pub invariant-loop-operand : goal.invariant-loop-operand
+invariant-loop-operand l = l.offsets ++ flat_map (λ y. two l.offset) (drop l.operand-index l.operands) ≡ l.initial.offsets ++ flat_map (λ y. two l.offset) l.operands
