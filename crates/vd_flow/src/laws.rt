@@ -2,7 +2,7 @@
 
 ghost use Rattle.vd_flow.specs.Ways.{WaysMakeChecksFail};
 
-/// The rules of a way make its check fail: so it does at each labelling at which they hold, whatever becomes of all other rules.
+/// The rules of a way alone make its check fail, at each labelling at which they hold.
 pub fn ways_make_checks_fail()
     ensures { WaysMakeChecksFail }
 {}

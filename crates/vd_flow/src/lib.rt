@@ -1,4 +1,4 @@
-//! Whether a labelling keeps every rule and every check of a system, and by which rules a check fails.
+//! Whether a labelling keeps every rule and every check of a system, and the rules that make a check fail.
 #![tactic(auto)]
 
 ghost use Rattle.std.specs.Prelude.{◌≡◌, ◌↔◌, All, IfErr, IsOk, IsTrue};

@@ -292,8 +292,8 @@ fn table_of(alloc: Global, system: &System, check: &Check) -> Result<Table, Allo
     Ok(table)
 }
 
-/// A way by which the check fails, whatever the labels are at which the rules of the system hold: rules that lead from a constant to
-/// the part of the check. A shortest one is looked for. None where none is found.
+/// A way to the fault of a check: rules that lead from a constant to its part, and that alone make it fail. A shortest one is looked
+/// for. None if none is found.
 pub fn way(alloc: Global, system: &System, check: &Check) -> Result<Option<Items<Step>>, AllocError>
     ensures { IfOk result (λ way. IfSome way (IsWay system.now check.now)) }
 {
