@@ -230,14 +230,16 @@ module _ (source : List ℕ) (slots : List Slot) (host : HostId) where
       → AreAllPlaced (if t then place ∷ [] else []) b (if t then telling ∷ [] else []) a
   output_placed false telling place b a name kind before after = tt
   output_placed true telling place b a name kind before after =
-      let same : a ≡ 0 + a = omega arith in
-      (subst (λ (n : ℕ). IsPlaced (place ∷ []) telling b n) same (record {
-        place = place;
-        among = inl refl;
-        name = name;
-        is_bool = kind;
-        fits = and_from (is_within b place.around.before) (is_within a place.around.after) (is_so b place.around.before before) (is_so a place.around.after after);
-      }), tt)
+      let same : a ≡ 0 + a = omega arith in (
+        subst (λ (n : ℕ). IsPlaced (place ∷ []) telling b n) same (record {
+          place = place;
+          among = inl refl;
+          name = name;
+          is_bool = kind;
+          fits = and_from (is_within b place.around.before) (is_within a place.around.after) (is_so b place.around.before before) (is_so a place.around.after after);
+        }),
+        tt,
+      )
 
   output_good : (slot : SlotId) (to : HostId) (offset : ℕ) → Good (brings_step source slots host (Stmt-F.Output slot to offset)) (walk_step source slots host (Stmt-F.Output slot to offset))
   output_good slot to offset = record {
