@@ -148,10 +148,10 @@ pub record Keeps (words : List (List ℕ)) (o : Around) (status : Status) : Type
   -- With status 0 `column` has printed the section of its host with the rows of words that the named columns give. It is read back as
   -- an inputs file that gives this host these words in order, and the others none.
   pub column : KeepsColumn words o.files.0 o.out.0 o.out.1 status
-  -- With status 0 the files that `deal` stored are the texts of the deals of as many hosts as were asked for. All identities hold, and
-  -- `replay` refuses none of them.
   -- `report` has printed the words that a host printed, each with the names of the outputs that can have told it.
   pub report : KeepsReport words o.files.0 o.out.0 o.out.1 status
+  -- With status 0 the files that `deal` stored are the texts of the deals of as many hosts as were asked for. All identities hold, and
+  -- `replay` refuses none of them.
   pub dealt : KeepsDeal words o.files.0 o.files.1 status
   -- So it is with a key of 32 bytes. Each file then also names the dealing, and has the keys of the links of its host.
   pub dealt_by_key : KeepsKeyed words o.files.0 o.files.1 status

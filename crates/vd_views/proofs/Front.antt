@@ -1,6 +1,5 @@
 -- The lemmas that other crates cite.
 pub use Rattle.vd_views.proofs.Frames.{acts_frame, acts_grow, itself}
-pub use Rattle.vd_views.proofs.Masks.{only_difference, only_xor, xor_back}
 pub use Rattle.vd_views.proofs.Changed.{changed_at, changed_elsewhere, changed_host, changed_place, changed_source}
 pub use Rattle.vd_views.proofs.Joints.{Grows, HasFrame, before, branch_frame, branch_grows, frame_after, joint_frame, joint_grows, turns_frame, turns_grow}
 pub use Rattle.vd_views.proofs.Plans.{begun_cursors, run_turn_grows}
