@@ -40,19 +40,19 @@ module _ (rules : List Lower) (end state : State) (found : Found) (is : IsFound 
     from_rule : Leads (IsState (record { part = found.rule.part; group = state.group })) (reverse steps) end.part end.group
     from_rule = subst (λ (part : Part). Leads (IsState (record { part = part; group = state.group })) (reverse steps) end.part end.group) (sym is.part_is) under_way.leads
 
-    leads_from : (ground : Ground) → found.ground ≡ ground → Leads (IsGround ground) (reverse now) end.part end.group
-    leads_from ground same =
-        subst (λ (list : List Step). Leads (IsGround ground) list end.part end.group) (sym in_front)
+    leads_from : (basis : Ground) → found.basis ≡ basis → Leads (IsGround basis) (reverse now) end.part end.group
+    leads_from basis same =
+        subst (λ (list : List Step). Leads (IsGround basis) list end.part end.group) (sym in_front)
         (subst (λ (g : Ground). Keeps (IsGround g) found.rule.bound state.group) same is.keeps, from_rule)
 
-    pub one_back : (before : State) → found.ground ≡ Kept before → IsUnderWay rules end before now
+    pub one_back : (before : State) → found.basis ≡ Kept before → IsUnderWay rules end before now
     one_back before same = record { among = all_among; leads = leads_from (Kept before) same }
 
-    pub arrived : (way : List Step) → way ≡ reverse now → found.ground ≡ Constant → IsWalk rules end way
+    pub arrived : (way : List Step) → way ≡ reverse now → found.basis ≡ Constant → IsWalk rules end way
     arrived way turned same = subst (IsWalk rules end) (sym turned) (record { among = all_among; leads = leads_from Constant same })
 
--- a ground that no state is
-pub is_constant : (ground : Ground) → ((state : State) → ground ≢ Kept state) → ground ≡ Constant
+-- a basis that no state is
+pub is_constant : (basis : Ground) → ((state : State) → basis ≢ Kept state) → basis ≡ Constant
 is_constant Constant other = refl
 is_constant (Kept state) other = absurd (other state refl)
 

@@ -10,17 +10,17 @@ use Rattle.vd_flow.specs.declared.ways.Ground.{Ground}
 use Rattle.vd_flow.specs.declared.ways.Ground.TheVariants.{Constant, Kept}
 use Rattle.vd_flow.specs.Ways.{IsOfRules, IsState, Keeps, Leads, LetsThrough, Nothing}
 
--- what a ground says is kept from whom
+-- what a basis says is kept from whom
 abbrev pub IsGround : Ground → Part → ℕ → Type 0
 IsGround Constant = Nothing
 IsGround (Kept state) = IsState state
 
--- the rule is the one of these with its number, and keeps the group of the state from its part, on its ground
+-- the rule is the one of these with its number, and keeps the group of the state from its part, on its basis
 pub record IsFound (rules : List Lower) (state : State) (found : Found) : Type 0 where
   pub low : found.number < length rules
   pub is : slice_index_or rules found.number found.rule ≡ found.rule
   pub part_is : found.rule.part ≡ state.part
-  pub keeps : Keeps (IsGround found.ground) found.rule.bound state.group
+  pub keeps : Keeps (IsGround found.basis) found.rule.bound state.group
 
 -- the steps go by these rules from a constant to the state
 pub record IsWalk (rules : List Lower) (end : State) (steps : List Step) : Type 0 where

@@ -38,7 +38,7 @@ pub(crate) enum Ground {
 pub(crate) struct Found {
     pub number: usize,
     pub rule: Lower,
-    pub ground: Ground,
+    pub basis: Ground,
 }
 
 /// For each part and group the round in which the group was found to be kept from the part; 0 where it was not. The round is the
@@ -148,7 +148,7 @@ fn lets_through(formula: &Formula, group: u8) -> bool
 
 /// That this group was kept from this part before the round, if it was.
 fn kept_before(table: &Table, state: State, round: u32) -> Option<Ground>
-    ensures { IfSome result (λ ground. IsGround ground state.part state.group) }
+    ensures { IfSome result (λ basis. IsGround basis state.part state.group) }
 {
     if table.is_before(state, round) {
         Some(Ground::Kept(state))
@@ -165,7 +165,7 @@ fn kept_larger(
     group: u8,
     round: u32,
 ) -> Option<Ground>
-    ensures { IfSome result (λ ground. KeepsLarger formula.now (IsGround ground part) group) }
+    ensures { IfSome result (λ basis. KeepsLarger formula.now (IsGround basis part) group) }
 {
     for larger in group..table.groups {
         let state = State {
@@ -184,7 +184,7 @@ fn kept_larger(
 
 /// Why the bound keeps the group away, by what was found before the round.
 fn ground_of(table: &Table, bound: &Bound, group: u8, round: u32) -> Option<Ground>
-    ensures { IfSome result (λ ground. Keeps (IsGround ground) bound.now group) }
+    ensures { IfSome result (λ basis. Keeps (IsGround basis) bound.now group) }
 {
     match bound {
         Bound::Constant(formula) => {
@@ -212,11 +212,11 @@ fn find_rule(table: &Table, rules: &[Lower], state: State, round: u32) -> Option
 {
     for (number, rule) in rules.iter().enumerate() {
         if rule.part == state.part {
-            if let Some(ground) = ground_of(table, &rule.bound, state.group, round) {
+            if let Some(basis) = ground_of(table, &rule.bound, state.group, round) {
                 return Some(Found {
                     number,
                     rule: *rule,
-                    ground,
+                    basis,
                 });
             }
         }
@@ -251,7 +251,7 @@ fn walk(
             rule: found.rule,
             group: state.group,
         })?;
-        let Ground::Kept(before) = found.ground else {
+        let Ground::Kept(before) = found.basis else {
             return Ok(Some(reversed(steps)));
         };
         let earlier = table.round(before);
