@@ -139,7 +139,7 @@ statuses:
 ";
 
 /// The text of `--version`.
-const VERSION: &str = "viaduct 0.1.0\n";
+const VERSION: &str = "viaduct 0.2.0\n";
 
 #[tactic(auto, unfolding(crate::specs::Own::help_text))]
 fn help() -> &'static str
