@@ -17,10 +17,10 @@ legend_text = codes "<text class=\"plain\" x=\"112\" y=\"0\">not drawn: the mask
 unfoldable pub begin_text : List ℕ
 begin_text = codes "<svg xmlns=\"http://www.w3.org/2000/svg\" xmlns:xlink=\"http://www.w3.org/1999/xlink\" version=\"1.1\""
 
--- all of it is shown, so it can be scaled
-abbrev pub pair_text : ℕ → ℕ → List ℕ
+unfoldable pub pair_text : ℕ → ℕ → List ℕ
 pair_text width height = number_text width ++ codes " " ++ number_text height
 
+-- all of it is shown, so it can be scaled
 abbrev pub view_text : ℕ → ℕ → List ℕ
 view_text width height = codes " viewBox=\"0 0 " ++ pair_text width height ++ codes "\""
 

@@ -100,6 +100,7 @@ fn begin() -> &'static str
 }
 
 /// Puts two numbers at the end.
+#[tactic(auto, unfolding(crate::specs::Documents::pair_text))]
 fn push_pair(text: &mut Bytes, width: u64, height: u64) -> Result<(), AllocError>
     ensures { OnOk result (text.new ≡ text.old ++ documents.pair_text width height) }
 {
