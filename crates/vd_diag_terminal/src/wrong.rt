@@ -10,7 +10,7 @@ use vd_diag::{in_table, three};
 
 /// What stands behind a command, a sign for each word: `f` is any word and `n` a number; `F` and `N` may be left out, and behind `*`
 /// stand any.
-const PATTERNS: [(&[u8], &[u8]); 21] = [
+const PATTERNS: [(&[u8], &[u8]); 22] = [
     (b"clear", b"ff"),
     (b"labels", b"f"),
     (b"choose", b"fN"),
@@ -19,15 +19,16 @@ const PATTERNS: [(&[u8], &[u8]); 21] = [
     (b"certify", b"ff"),
     (b"compile", b"ffFN"),
     (b"needs", b"fFN"),
+    (b"rounds", b"fN"),
     (b"column", b"fff*"),
     (b"deal", b"nnnnnff"),
     (b"replay", b"ffffFN"),
     (b"check", b"fff"),
     (b"host", b"fff*"),
     (b"host-within", b"nfff*"),
+    (b"report", b"fffF"),
     (b"run", b"ffffn"),
     (b"excuse", b"ffffffN"),
-    (b"hasten", b"ff"),
     (b"depends", b"ff"),
     (b"influences", b"ff"),
     (b"gen", b"n"),
