@@ -199,5 +199,6 @@ runs_read = record {
       (ap (λ (t : Bool). if t then numbers_in file (between (host_words words)) else lined file host (absent (host_words words)) (host_words words)) (host_whole words)
       ∙ ap (numbers_in file) (host_between words) ∙ are_numbers file words are);
   by_line = λ file host words hosts named are few.
-      by_words file host (words_line (host ++ codes " ended") words) words (line_split host words) (line_ends host words) (line_read host words named are few) (line_told file host words are few);
+      subst (λ (head : List ℕ). printed_words file host (words_line head words) ≡ Ok words) (sym (append_assoc host (codes " ") (codes "ended")))
+      (by_words file host (words_line (host ++ codes " ended") words) words (line_split host words) (line_ends host words) (line_read host words named are few) (line_told file host words are few));
 }
