@@ -23,7 +23,8 @@ pub struct Ascent {
 }
 
 impl Ascent {
-    /// After all sweeps, by the tables without shifts. None where a point has no setting left, since then no list is valid.
+    /// After all sweeps, by the tables without shifts. None where a point has no setting left, since then no list is valid, and none
+    /// where the lists that are met stay far from the bound, since then no few prefixes do.
     pub fn of(
         alloc: Global,
         problem: &Problem,

@@ -13,7 +13,8 @@ use vd_protocol::protocols;
 use vd_space::Problem;
 use vd_space_tables::candidates;
 
-/// At first so many sweeps are made at most, over all settings.
+/// At first so many sweeps are made at most, over all settings. Where a list is far from the bound even behind an eighth of their work,
+/// a search by arcs would open too many prefixes.
 const FIRST: Limits = Limits {
     sweeps: 256,
     work: 268_435_456,
@@ -22,6 +23,7 @@ const FIRST: Limits = Limits {
     pause: 3,
     reads_forward: false,
     gap: 1,
+    far_from: 33_554_432,
 };
 
 /// Then so many over those settings that cost less than each other one of their point for some partners.
@@ -33,6 +35,7 @@ const THINNED: Limits = Limits {
     pause: 15,
     reads_forward: false,
     gap: 1,
+    far_from: u64::MAX,
 };
 
 /// At last so many over all settings again.
@@ -44,6 +47,7 @@ const LAST: Limits = Limits {
     pause: 3,
     reads_forward: false,
     gap: 1,
+    far_from: u64::MAX,
 };
 
 /// 65,536 units, so that some hundred lifts together still are an amount of 32 bits; at its other arcs a setting costs more only as
@@ -70,7 +74,7 @@ pub struct Climb {
 
 impl Climb {
     /// After all sweeps over a problem, at whose end each point gave what it has above its least back to the points before it; by
-    /// the tables without shifts; none where a point has no setting left.
+    /// the tables without shifts; none where a point has no setting left, or the lists that are met stay far from the bound.
     pub fn of(
         alloc: Global,
         problem: &Problem,
@@ -101,8 +105,10 @@ impl Climb {
             state,
             witness: Witness::none(alloc),
         };
-        if climb.sweep(alloc, FIRST)? == Ending::Cut {
-            climb.go_on(alloc, by_arcs)?;
+        match climb.sweep(alloc, FIRST)? {
+            Ending::Shown | Ending::Idle => {}
+            Ending::Cut => climb.go_on(alloc, by_arcs)?,
+            Ending::Far => return Ok(None),
         }
         climb
             .state

@@ -21,6 +21,8 @@ pub struct Limits {
     pub reads_forward: bool,
     /// The sweeps end where a list costs less than so many parts more than the bound, or no more than that.
     pub gap: i64,
+    /// From so much that was computed on, they also end where the cheapest list costs more than the bound and its half.
+    pub far_from: u64,
 }
 
 impl Limits {
@@ -33,6 +35,14 @@ impl Limits {
     pub(crate) fn aim(self, cost: i64, bits: u32) -> i64 {
         let gap = self.gap.wrapping_shr(bits).max(1);
         cost.saturating_sub(gap).saturating_add(1)
+    }
+
+    /// Whether the sweeps end since the cheapest list costs so much and the bound is that, where so much was computed. Nothing is far
+    /// as long as no list is known.
+    pub(crate) fn is_far(self, work: u64, cost: i64, bound: i64) -> bool {
+        work >= self.far_from
+            && cost < i64::MAX
+            && cost > bound.saturating_add(bound.wrapping_shr(1))
     }
 }
 

@@ -7,6 +7,8 @@ pub enum Ending {
     Shown,
     /// The bound did not rise any more.
     Idle,
+    /// The cheapest list costs too much more than the bound.
+    Far,
     /// So many sweeps were made, or so much was computed.
     Cut,
 }

@@ -315,8 +315,8 @@ impl State {
     }
 
     /// Sweeps either way by turns, until a list costs no more than the bound, or little enough more for the limits, until the bound
-    /// does not rise any more, or a limit is reached. Answers why it ended; the cheapest list that it met is put in the place of a dearer
-    /// one.
+    /// does not rise any more, the cheapest list stays far from the bound, or a limit is reached. Answers why it ended; the cheapest
+    /// list that it met is put in the place of a dearer one.
     pub fn climb<O: Observer>(
         &mut self,
         alloc: Global,
@@ -342,6 +342,9 @@ impl State {
             let aim = limits.aim(witness.cost, tables.bits);
             if let Some(ending) = progress.ending(aim, limits.patience) {
                 return Ok(ending);
+            }
+            if limits.is_far(self.work(), witness.cost, self.bound()) {
+                return Ok(Ending::Far);
             }
             if self.work() >= limits.work {
                 break;

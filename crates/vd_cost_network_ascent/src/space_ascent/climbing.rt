@@ -28,6 +28,7 @@ impl Level {
             pause: 3,
             reads_forward: true,
             gap: UNIT,
+            far_from: u64::MAX,
         }
     }
 }
