@@ -22,9 +22,9 @@ early_part problem budget = min budget (1000 + 4 * length problem.slots)
 abbrev pub network_part : Problem → ℕ → ℕ
 network_part problem budget = min budget (256 + length problem.slots)
 
--- what a late search may open: the eighth part
+-- what a late search may open: the 32nd part
 abbrev pub late_part : ℕ → ℕ
-late_part budget = budget / 8
+late_part budget = budget / 32
 
 -- ---- stages that are spent
 

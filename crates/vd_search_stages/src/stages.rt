@@ -34,7 +34,7 @@ const FIRST_BUDGET_OF_A_SLOT: u32 = 4;
 const NETWORK_BUDGET: u32 = 256;
 
 /// The search by better shifts behind that by arcs has so small a part of the budget.
-const LATE_PART: u32 = 8;
+const LATE_PART: u32 = 32;
 
 /// The budget of the first search: enough where the usual shifts are good.
 fn first_budget(problem: &Problem, budget: u32) -> u32
