@@ -16,14 +16,15 @@ use Rattle.vd_cmd_labels.specs.WhatWraps.{IsWhatWraps, IsWhatWrapsIn}
 
 -- ---- the words that a text hands in are those that were read
 
-module _ {E : Type 0} (source : Source) (names : List (List ℕ)) (words : List ℕ) (same : names ≡ host_names source.hosts) where
-  there : (inputs : List (List ℕ)) → GivesInputs (host_names source.hosts) words inputs → GivesInputs names words inputs
-  there inputs gives = subst (λ (hosts : List (List ℕ)). GivesInputs hosts words inputs) (sym same) gives
+there : (source : Source) (names : List (List ℕ)) (words : List ℕ) → names ≡ host_names source.hosts → (inputs : List (List ℕ))
+    → GivesInputs (host_names source.hosts) words inputs → GivesInputs names words inputs
+there source names words same inputs gives = subst (λ (hosts : List (List ℕ)). GivesInputs hosts words inputs) (sym same) gives
 
+module _ {E : Type 0} (source : Source) (names : List (List ℕ)) (words : List ℕ) (same : names ≡ host_names source.hosts) where
   pub by_words : (given : List (List ℕ)) (result : Result (List Wrap) E) → Accepts (Ok given) (GivesInputs names words)
       → IfOk result (λ wraps. wraps ≡ source_wraps source given) → IfOk result (IsWhatWrapsIn source words)
   by_words given (Ok wraps) accepts is = λ inputs gives.
-      let read : ◌≡◌ {A = Result (List (List ℕ)) ReadFault} (Ok given) (Ok inputs) = (accepts (λ e. cc e) inputs).1 (there inputs gives) in
+      let read : ◌≡◌ {A = Result (List (List ℕ)) ReadFault} (Ok given) (Ok inputs) = (accepts (λ e. cc e) inputs).1 (there source names words same inputs gives) in
       let found : given ≡ inputs = cc read in
       is ∙ ap (λ (i : List (List ℕ)). source_wraps source i) found
   by_words given (Err e) accepts is = tt
@@ -31,7 +32,7 @@ module _ {E : Type 0} (source : Source) (names : List (List ℕ)) (words : List 
   pub by_no_words : (fault : ReadFault) (result : Result (List Wrap) E) → Accepts (Err fault) (GivesInputs names words)
       → IfOk result (λ wraps. fault ≢ read_fault.Memory) → IfOk result (IsWhatWrapsIn source words)
   by_no_words fault (Ok wraps) accepts other = λ inputs gives.
-      let read : ◌≡◌ {A = Result (List (List ℕ)) ReadFault} (Err fault) (Ok inputs) = (accepts (λ e. other (cc e)) inputs).1 (there inputs gives) in
+      let read : ◌≡◌ {A = Result (List (List ℕ)) ReadFault} (Err fault) (Ok inputs) = (accepts (λ e. other (cc e)) inputs).1 (there source names words same inputs gives) in
       absurd (cc read)
   by_no_words fault (Err e) accepts other = tt
 
