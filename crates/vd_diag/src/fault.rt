@@ -19,3 +19,11 @@ impl From<AllocError> for TellFault {
         TellFault::Memory
     }
 }
+
+impl From<TellFault> for AllocError {
+    fn from(fault: TellFault) -> AllocError {
+        match fault {
+            TellFault::Memory => AllocError,
+        }
+    }
+}
