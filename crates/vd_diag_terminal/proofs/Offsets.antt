@@ -1,5 +1,5 @@
--- Where no label is written, no place is added.
-use Rattle.std.proofs.Common.{◌≡◌, ℕ, ◌≤◌, true, ltb, get_or, List, [], ◌++◌, Option, None, length, slice_get, refl, sym, ap, ◌∙◌}
+-- Where no label is written, no place is added; for each operand two are.
+use Rattle.std.proofs.Common.{◌≡◌, ℕ, zero, suc, ◌+◌, ◌<◌, ◌≤◌, true, ltb, get_or, List, [], ◌∷◌, ◌++◌, Option, None, drop, flat_map, length, slice_get, refl, sym, ap, ◌∙◌, add-one, append_assoc, arith}
 use Rattle.std.proofs.lemmas.Bool.{ltb-true}
 use Rattle.std.proofs.lemmas.List.{append-nil}
 use Rattle.std.proofs.lemmas.Option.{slice_get_read, slice_get_past}
@@ -26,3 +26,15 @@ module _ (p : NormalForm) (x : SlotId) (slots : List made.Slot) (same : slots �
 
   pub no_label : (slot : made.Slot) → true ≡ ltb i (length slots) → slot ≡ get_or slots i slot → slot.label ≡ None → written_offsets p x ≡ []
   no_label slot low read none = read_here ∙ ap added (slice_get_read slots (length slots) i slot refl (ltb-true i (length slots) (sym low)) read) ∙ ap (label_offsets slot.offset) none
+
+-- for each operand that is left the same places are added
+behind : {A : Type 0} (places : List ℕ) (xs : List A) (i : ℕ) → i < length xs → flat_map (λ (x : A). places) (drop i xs) ≡ places ++ flat_map (λ (x : A). places) (drop (suc i) xs)
+behind places [] i low = absurd (omega arith)
+behind places (x ∷ xs) zero low = refl
+behind places (x ∷ xs) (suc i) low = behind places xs i (omega arith)
+
+pub one_more : {A : Type 0} (places before now whole : List ℕ) (xs : List A) (i : ℕ) → i < length xs → now ≡ before ++ places → before ++ flat_map (λ (x : A). places) (drop i xs) ≡ whole → now ++ flat_map (λ (x : A). places) (drop (i + 1) xs) ≡ whole
+one_more {A} places before now whole xs i low added left =
+    let more : List ℕ = flat_map (λ (x : A). places) (drop (i + 1) xs) in
+    let next : flat_map (λ (x : A). places) (drop i xs) ≡ places ++ more = behind places xs i low ∙ ap (λ k. places ++ flat_map (λ (x : A). places) (drop k xs)) (sym (add-one i)) in
+    ap (λ (front : List ℕ). front ++ more) added ∙ append_assoc before places more ∙ ap (λ (rest : List ℕ). before ++ rest) (sym next) ∙ left
