@@ -20,9 +20,13 @@ begin_text = codes "<svg xmlns=\"http://www.w3.org/2000/svg\" xmlns:xlink=\"http
 unfoldable pub pair_text : ℕ → ℕ → List ℕ
 pair_text width height = number_text width ++ codes " " ++ number_text height
 
+-- what is shown of a drawing begins at its corner
+unfoldable pub corner_text : List ℕ
+corner_text = codes " viewBox=\"0 0 "
+
 -- all of it is shown, so it can be scaled
 abbrev pub view_text : ℕ → ℕ → List ℕ
-view_text width height = codes " viewBox=\"0 0 " ++ pair_text width height ++ codes "\""
+view_text width height = corner_text ++ pair_text width height ++ codes "\""
 
 abbrev pub head_text : ℕ → ℕ → List ℕ
 head_text width height = begin_text ++ attribute (codes " width") width ++ attribute (codes " height") height ++ view_text width height ++ codes ">\n" ++ look_text

@@ -99,6 +99,16 @@ fn begin() -> &'static str
     BEGIN
 }
 
+/// How it is told what of a drawing is shown: from its corner on.
+const CORNER: &str = " viewBox=\"0 0 ";
+
+#[tactic(auto, unfolding(crate::specs::Documents::corner_text))]
+fn corner() -> &'static str
+    ensures { result.now ≡ documents.corner_text }
+{
+    CORNER
+}
+
 /// Puts two numbers at the end.
 #[tactic(auto, unfolding(crate::specs::Documents::pair_text))]
 fn push_pair(text: &mut Bytes, width: u64, height: u64) -> Result<(), AllocError>
@@ -113,7 +123,7 @@ fn push_pair(text: &mut Bytes, width: u64, height: u64) -> Result<(), AllocError
 fn push_view(text: &mut Bytes, width: u64, height: u64) -> Result<(), AllocError>
     ensures { OnOk result (text.new ≡ text.old ++ documents.view_text width height) }
 {
-    text.extend_from_slice(b" viewBox=\"0 0 ")?;
+    text.extend_from_slice(corner().as_bytes())?;
     push_pair(text, width, height)?;
     text.extend_from_slice(b"\"")
 }
