@@ -19,11 +19,3 @@ impl From<AllocError> for TellFault {
         TellFault::Memory
     }
 }
-
-impl From<TellFault> for AllocError {
-    fn from(fault: TellFault) -> AllocError {
-        match fault {
-            TellFault::Memory => AllocError,
-        }
-    }
-}

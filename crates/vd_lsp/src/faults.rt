@@ -86,8 +86,10 @@ fn remarked(
 fn fault_of(alloc: Global, text: &[u8], status: &Status) -> Result<Fault, AllocError>
     ensures { IfOk result (IsFaultOf text.now status.now) }
 {
-    let remark = remark_on(alloc, text, status)?;
-    remarked(alloc, text, status.code(), remark)
+    match remark_on(alloc, text, status) {
+        Ok(remark) => remarked(alloc, text, status.code(), remark),
+        Err(_) => Err(AllocError),
+    }
 }
 
 /// The faults of a text whose check came to this status, which is not that there was no memory.

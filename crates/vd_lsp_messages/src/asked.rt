@@ -1,41 +1,19 @@
 //! What the body of a message asks for.
 
-ghost use Rattle.std.specs.Prelude.{◌≡◌, ⊥, IfErr, IfOk, IsUtf8, None, Some};
-ghost use Rattle.serde_json.specs.Errors.{IsMemory};
+ghost use Rattle.std.specs.Prelude.{◌≡◌, IfOk, IsUtf8};
 ghost use Rattle.serde_json.specs.Read.{read};
 ghost use Rattle.serde_json.specs.View.{view};
 ghost use Rattle.vd_lsp_messages.specs.Asked as asked;
 ghost use Rattle.vd_lsp_messages.specs.Asked.{IsMessage};
-ghost use Rattle.vd_lsp_messages.specs.declared.asked.Unread.TheVariants as unread;
 
 use crate::kinds::{Id, Incoming};
 use crate::members::{
     changed_document, has_id, id_of, is_answer, name_of, opened_document, uri_of,
 };
 use crate::questions::other_request;
-use serde_json::{Error, Value};
+use serde_json::Value;
 use std::alloc::{AllocError, Global};
 use vd_base::Text;
-
-/// Why a body is not read as JSON.
-#[derive(Drop)]
-enum Unread {
-    /// There was no memory left.
-    Memory(AllocError),
-    Malformed,
-}
-
-impl From<Error> for Unread {
-    ghost from_gives = { λ error fault. fault ≡ unread.Malformed → IsMemory error → ⊥ };
-
-    fn from(error: Error) -> Unread {
-        if error.is_memory() {
-            Unread::Memory(AllocError)
-        } else {
-            Unread::Malformed
-        }
-    }
-}
 
 /// The request for this method.
 fn request_of(alloc: Global, name: &[u8], message: &Value, id: Id) -> Result<Incoming, AllocError>
@@ -135,15 +113,6 @@ fn incoming_of(alloc: Global, message: &Value) -> Result<Incoming, AllocError>
     }
 }
 
-/// The JSON of a body, or why it has none.
-fn value_of(alloc: Global, body: &[u8]) -> Result<Value, Unread>
-    ensures ok { IfOk result (λ message. IsUtf8 body.now × (read body.now ≡ Some (view message))) }
-    ensures err { IfErr result (λ fault. fault ≡ unread.Malformed → IsUtf8 body.now → read body.now ≡ None) }
-{
-    let message = Value::from_slice(alloc, body)?;
-    Ok(message)
-}
-
 /// What a body asks for that is read as JSON.
 fn read_value(alloc: Global, message: Value) -> Result<Incoming, AllocError>
     ensures { IfOk result (λ incoming. incoming ≡ asked.incoming_of (view message)) }
@@ -155,9 +124,9 @@ fn read_value(alloc: Global, message: Value) -> Result<Incoming, AllocError>
 pub fn read_message(alloc: Global, body: &[u8]) -> Result<Incoming, AllocError>
     ensures { IfOk result (IsMessage body.now) }
 {
-    match value_of(alloc, body) {
+    match Value::from_slice(alloc, body) {
         Ok(message) => read_value(alloc, message),
-        Err(Unread::Memory(refused)) => Err(refused),
-        Err(Unread::Malformed) => Ok(Incoming::Malformed),
+        Err(fault) if fault.is_memory() => Err(AllocError),
+        Err(_) => Ok(Incoming::Malformed),
     }
 }
