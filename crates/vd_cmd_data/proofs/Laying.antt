@@ -1,5 +1,5 @@
 -- The outputs of statements, one after another.
-use Rattle.std.proofs.Common.{◌≡◌, ℕ, zero, suc, ◌+◌, ◌-◌, ◌<◌, ◌≤◌, List, [], ◌∷◌, ◌++◌, length, get_or, drop, map, refl, sym, ap, ◌∙◌, subst, arith, append-nil, append_assoc, add-one, drop-cons}
+use Rattle.std.proofs.Common.{◌≡◌, ℕ, zero, suc, ◌+◌, ◌-◌, ◌<◌, List, [], ◌∷◌, ◌++◌, length, get_or, drop, map, refl, sym, ap, ◌∙◌, subst, arith, append_assoc, add-one, drop-cons}
 use Rattle.vd_base.specs.declared.ids.HostId.{HostId}
 use Rattle.vd_core.specs.declared.normal.Slot.{Slot}
 use Rattle.vd_core.specs.declared.normal.Stmt.{Stmt, roll-Stmt, map-Stmt, ind-Stmt}
@@ -22,13 +22,6 @@ drop_suc (s ∷ body) (suc i) = drop_suc body i
 
 drop_one : (body : List Stmt) (i : ℕ) → drop 1 (drop i body) ≡ drop (i + 1) body
 drop_one body i = rw (add-one i) (drop_suc body i)
-
--- no turn is left
-pub last_turn : (list : List Brings) (count turn : ℕ) (turns : List ℕ) (here around : Around) (places before : List Place) → count ≤ turn
-    → places ++ turn_places list (count - turn) turn turns here ≡ before ++ turn_places list count 0 turns around → places ≡ before ++ turn_places list count 0 turns around
-last_turn list count turn turns here around places before low so_far =
-    let none : count - turn ≡ 0 = omega (arith, low) in
-    sym (append-nil places) ∙ ap (λ (n : ℕ). places ++ turn_places list n turn turns here) (sym none) ∙ so_far
 
 module _ (source : List ℕ) (slots : List Slot) (host : HostId) where
   abbrev the : Stmt → Brings

@@ -214,7 +214,6 @@ fn deeper(alloc: Global, turns: &[u8], turn: u32) -> Result<Bytes, AllocError>
 }
 
 /// Adds the outputs of a loop, turn by turn.
-#[tactic(auto, using(crate::proofs::Laying::last_turn))]
 #[cycle(places)]
 fn add_turns(
     alloc: Global,
