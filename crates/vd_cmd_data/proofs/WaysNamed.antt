@@ -291,6 +291,7 @@ module _ (source : List ℕ) (slots : List Slot) (host : HostId) where
   with_good body = map (λ (s : Stmt). (s, all_good s)) body
 
   same_body : (body : List Stmt) → statements (with_good body) ≡ body
+  unfolding with_good
   same_body [] = refl
   same_body (s ∷ body) = ap (λ (l : List Stmt). s ∷ l) (same_body body)
 
