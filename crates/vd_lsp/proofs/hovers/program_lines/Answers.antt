@@ -13,5 +13,5 @@ returns-in_err-labels c = λ least.
 
 pub returns-in_err-lines : goal.returns-in_err-lines
 returns-in_err-lines c = λ least.
-    let p = err_from_is_err_and c.from_residual.result c.from_residual.ensures.1 in
+    let p = err_from_is_err_and c.from_residual-in_err-lines.result c.from_residual-in_err-lines.ensures.1 in
     rw (p.1, p.2) (no_memory (program_lines least c.args.name.now c.args.statement c.args.program.now))
