@@ -13,8 +13,7 @@ use vd_base::limits::{
 };
 use vd_base::{Items, Text, Texts};
 use vd_cmd::{
-    CheckWords, Command, CommandFault, ExcuseWords, FilesCommand, HostWords, KeySource,
-    ReplayWords, read_words,
+    Command, CommandFault, ExcuseWords, FilesCommand, KeySource, ReplayWords, read_words,
 };
 use vd_cmd_plan::file_name;
 use vd_edge::{Directory, KeptFiles, RealFiles, Wanted};
@@ -24,34 +23,25 @@ use vd_outside::{FetchFault, Files};
 const KEY_BYTES: u32 = 32;
 
 /// A file with a name of the command line.
-fn named(alloc: Global, name: &Text, most: u32) -> Result<Wanted, AllocError>
-    ensures { IfOk result (λ file. file ≡ record { name = name.now; most = most }) }
-{
-    let name = Text::copy_of(alloc, name.as_str())?;
-    Ok(Wanted { name, most })
-}
-
-/// One such file.
-fn one(alloc: Global, name: &Text, most: u32) -> Result<Items<Wanted>, AllocError>
-    ensures { IfOk result (λ files. files ≡ record { name = name.now; most = most } ∷ []) }
+fn one(alloc: Global, name: Text, most: u32) -> Result<Items<Wanted>, AllocError>
+    ensures { IfOk result (λ files. files ≡ record { name = name; most = most } ∷ []) }
 {
     let mut files = Items::new(alloc);
-    files.push(named(alloc, name, most)?)?;
+    files.push(Wanted { name, most })?;
     Ok(files)
 }
 
 /// A source, and another file.
 fn source_and(
     alloc: Global,
-    source: &Text,
-    name: &Text,
+    source: Text,
+    name: Text,
     most: u32,
 ) -> Result<Items<Wanted>, AllocError>
-    ensures { IfOk result (λ files. files ≡
-        record { name = source.now; most = SOURCE_BYTES } ∷ record { name = name.now; most = most } ∷ []) }
+    ensures { IfOk result (λ files. files ≡ record { name = source; most = SOURCE_BYTES } ∷ record { name = name; most = most } ∷ []) }
 {
     let mut files = one(alloc, source, SOURCE_BYTES)?;
-    files.push(named(alloc, name, most)?)?;
+    files.push(Wanted { name, most })?;
     Ok(files)
 }
 
@@ -70,48 +60,73 @@ fn deals(alloc: Global, prefix: &Text, files: &mut Items<Wanted>) -> Result<(), 
 }
 
 /// The files of `replay`.
-fn replayed(alloc: Global, words: &ReplayWords) -> Result<Items<Wanted>, AllocError>
-    ensures { IfOk result (λ files. files ≡ wanted_of (Command.OnFiles (FilesCommand.Replay words.now))) }
+fn replayed(alloc: Global, words: ReplayWords) -> Result<Items<Wanted>, AllocError>
+    ensures { IfOk result (λ files. files ≡ wanted_of (Command.OnFiles (FilesCommand.Replay words))) }
 {
-    let mut files = source_and(alloc, &words.source, &words.inputs, INPUTS_BYTES)?;
-    deals(alloc, &words.prefix, &mut files)?;
-    files.push(named(alloc, &words.schedule, SCHEDULE_BYTES)?)?;
+    let ReplayWords {
+        source,
+        inputs,
+        prefix,
+        schedule,
+        messages: _,
+        budget: _,
+    } = words;
+    let mut files = source_and(alloc, source, inputs, INPUTS_BYTES)?;
+    deals(alloc, &prefix, &mut files)?;
+    files.push(Wanted {
+        name: schedule,
+        most: SCHEDULE_BYTES,
+    })?;
     Ok(files)
 }
 
 /// The files of `excuse`.
-fn excused(alloc: Global, words: &ExcuseWords) -> Result<Items<Wanted>, AllocError>
-    ensures { IfOk result (λ files. files ≡ wanted_of (Command.OnFiles (FilesCommand.Excuse words.now))) }
+fn excused(alloc: Global, words: ExcuseWords) -> Result<Items<Wanted>, AllocError>
+    ensures { IfOk result (λ files. files ≡ wanted_of (Command.OnFiles (FilesCommand.Excuse words))) }
 {
-    let mut files = source_and(alloc, &words.source, &words.inputs, INPUTS_BYTES)?;
-    files.push(named(alloc, &words.second, INPUTS_BYTES)?)?;
-    deals(alloc, &words.prefix, &mut files)?;
+    let ExcuseWords {
+        source,
+        inputs,
+        second,
+        prefix,
+        host: _,
+        out: _,
+        budget: _,
+    } = words;
+    let mut files = source_and(alloc, source, inputs, INPUTS_BYTES)?;
+    files.push(Wanted {
+        name: second,
+        most: INPUTS_BYTES,
+    })?;
+    deals(alloc, &prefix, &mut files)?;
     Ok(files)
 }
 
-/// The files of `host`.
-fn of_host(alloc: Global, words: &HostWords) -> Result<Items<Wanted>, AllocError>
-    ensures { IfOk result (λ files. files ≡ wanted_of (Command.Host words.now)) }
+/// A host's program, its inputs and its deal.
+fn of_host(
+    alloc: Global,
+    program: Text,
+    inputs: Text,
+    deal: Text,
+) -> Result<Items<Wanted>, AllocError>
+    ensures { IfOk result (λ files. files ≡ record { name = program; most = HOST_FILE_BYTES }
+        ∷ record { name = inputs; most = INPUTS_BYTES } ∷ record { name = deal; most = DEAL_BYTES } ∷ []) }
 {
-    let mut files = one(alloc, &words.program, HOST_FILE_BYTES)?;
-    files.push(named(alloc, &words.inputs, INPUTS_BYTES)?)?;
-    files.push(named(alloc, &words.deal, DEAL_BYTES)?)?;
-    Ok(files)
-}
-
-/// The files of `check`.
-fn of_check(alloc: Global, words: &CheckWords) -> Result<Items<Wanted>, AllocError>
-    ensures { IfOk result (λ files. files ≡ wanted_of (Command.Check words.now)) }
-{
-    let mut files = one(alloc, &words.program, HOST_FILE_BYTES)?;
-    files.push(named(alloc, &words.inputs, INPUTS_BYTES)?)?;
-    files.push(named(alloc, &words.deal, DEAL_BYTES)?)?;
+    let mut files = one(alloc, program, HOST_FILE_BYTES)?;
+    files.push(Wanted {
+        name: inputs,
+        most: INPUTS_BYTES,
+    })?;
+    files.push(Wanted {
+        name: deal,
+        most: DEAL_BYTES,
+    })?;
     Ok(files)
 }
 
 /// The file of a key of 32 bytes, where it is read.
-fn of_key(alloc: Global, key: &KeySource) -> Result<Items<Wanted>, AllocError>
-    ensures { IfOk result (λ files. files ≡ key_files key.now) }
+fn of_key(alloc: Global, key: KeySource) -> Result<Items<Wanted>, AllocError>
+    ensures { IfOk result (λ files. files ≡ key_files key) }
 {
     match key {
         KeySource::InFile(name) => one(alloc, name, KEY_BYTES),
@@ -119,42 +134,55 @@ fn of_key(alloc: Global, key: &KeySource) -> Result<Items<Wanted>, AllocError>
     }
 }
 
-/// The files that a command may fetch, with the most bytes of each. Of deals they are those of as many hosts as a source may
-/// have.
-fn files_of(alloc: Global, command: &Command) -> Result<Items<Wanted>, AllocError>
-    ensures { IfOk result (λ files. files ≡ wanted_of command.now) }
+/// The files that a command on files may fetch, with the most bytes of each. Of deals they are those of as many hosts as a source
+/// may have.
+fn files_on(alloc: Global, command: FilesCommand) -> Result<Items<Wanted>, AllocError>
+    ensures { IfOk result (λ files. files ≡ wanted_of (Command.OnFiles command)) }
 {
     match command {
-        Command::OnFiles(FilesCommand::Clear(source, inputs)) => {
-            source_and(alloc, source, inputs, INPUTS_BYTES)
-        }
-        Command::OnFiles(FilesCommand::Certify(source, certificate)) => {
+        FilesCommand::Clear(source, inputs) => source_and(alloc, source, inputs, INPUTS_BYTES),
+        FilesCommand::Certify(source, certificate) => {
             source_and(alloc, source, certificate, CERTIFICATE_BYTES)
         }
-        Command::OnFiles(
-            FilesCommand::Labels(source)
-            | FilesCommand::Choose(source, _)
-            | FilesCommand::Draw(source, _)
-            | FilesCommand::Compile(source, _, _)
-            | FilesCommand::Depends(source, _)
-            | FilesCommand::Influences(source, _),
-        ) => one(alloc, source, SOURCE_BYTES),
-        Command::OnFiles(FilesCommand::Reveals(words)) => one(alloc, &words.source, SOURCE_BYTES),
-        Command::OnFiles(FilesCommand::Needs(words)) => one(alloc, &words.file, HOST_FILE_BYTES),
-        Command::OnFiles(FilesCommand::Column(words)) => one(alloc, &words.file, INPUTS_BYTES),
-        Command::OnFiles(FilesCommand::Report(words)) => {
-            source_and(alloc, &words.source, &words.file, INPUTS_BYTES)
+        FilesCommand::Labels(source) => one(alloc, source, SOURCE_BYTES),
+        FilesCommand::Choose(source, _) => one(alloc, source, SOURCE_BYTES),
+        FilesCommand::Draw(source, _) => one(alloc, source, SOURCE_BYTES),
+        FilesCommand::Compile(source, _, _) => one(alloc, source, SOURCE_BYTES),
+        FilesCommand::Depends(source, _) => one(alloc, source, SOURCE_BYTES),
+        FilesCommand::Influences(source, _) => one(alloc, source, SOURCE_BYTES),
+        FilesCommand::Reveals(words) => one(alloc, words.source, SOURCE_BYTES),
+        FilesCommand::Needs(words) => one(alloc, words.file, HOST_FILE_BYTES),
+        FilesCommand::Column(words) => one(alloc, words.file, INPUTS_BYTES),
+        FilesCommand::Report(words) => source_and(alloc, words.source, words.file, INPUTS_BYTES),
+        FilesCommand::Replay(words) => replayed(alloc, words),
+        FilesCommand::Excuse(words) => excused(alloc, words),
+        FilesCommand::Deal(..) | FilesCommand::Gen(_) | FilesCommand::Trial(_) => {
+            Ok(Items::new(alloc))
         }
-        Command::OnFiles(FilesCommand::Replay(words)) => replayed(alloc, words),
-        Command::OnFiles(FilesCommand::Excuse(words)) => excused(alloc, words),
-        Command::OnFiles(FilesCommand::Deal(..) | FilesCommand::Gen(_) | FilesCommand::Trial(_)) =>
-            { Ok(Items::new(alloc)) }
-        Command::KeyDeal(words) => of_key(alloc, &words.key),
-        Command::Early(words) => one(alloc, &words.source, SOURCE_BYTES),
-        Command::Host(words) => of_host(alloc, words),
-        Command::Check(words) => of_check(alloc, words),
-        Command::Run(words) => one(alloc, &words.source, SOURCE_BYTES),
     }
+}
+
+/// The same of any command.
+fn files_of(alloc: Global, command: Command) -> Result<Items<Wanted>, AllocError>
+    ensures { IfOk result (λ files. files ≡ wanted_of command) }
+{
+    match command {
+        Command::OnFiles(command) => files_on(alloc, command),
+        Command::KeyDeal(words) => of_key(alloc, words.key),
+        Command::Early(words) => one(alloc, words.source, SOURCE_BYTES),
+        Command::Host(words) => of_host(alloc, words.program, words.inputs, words.deal),
+        Command::Check(words) => of_host(alloc, words.program, words.inputs, words.deal),
+        Command::Run(words) => one(alloc, words.source, SOURCE_BYTES),
+    }
+}
+
+/// The files of a command whose words were read.
+fn files_of_read(alloc: Global, command: Command) -> Result<Items<Wanted>, CommandFault>
+    ensures files { IfOk result (λ files. files ≡ wanted_of command) }
+    ensures memory { IfErr result (λ fault. fault ≡ CommandFault.Memory) }
+{
+    let files = files_of(alloc, command)?;
+    Ok(files)
 }
 
 /// The files that a command line may fetch; none where its words have no form.
@@ -163,10 +191,7 @@ fn files_of_words(alloc: Global, words: &Texts) -> Result<Items<Wanted>, Command
     ensures memory { IfErr result (λ fault. fault ≡ CommandFault.Memory) }
 {
     match read_words(alloc, words) {
-        Ok(command) => match files_of(alloc, &command) {
-            Ok(files) => Ok(files),
-            Err(_) => Err(CommandFault::Memory),
-        },
+        Ok(command) => files_of_read(alloc, command),
         Err(CommandFault::Usage) => Ok(Items::new(alloc)),
         Err(CommandFault::Memory) => Err(CommandFault::Memory),
     }
