@@ -26,18 +26,20 @@ module _ (words : List (List ℕ)) (begun : List ℕ) where
 
 goes_on : (bytes : List ℕ) (words : List (List ℕ)) (begun : List ℕ) → whole (fold after_byte (at words begun) bytes) ≡ words ++ words_from begun bytes
 goes_on [] words begun = refl
-goes_on (b ∷ bytes) words begun = by (is_space b) refl
+goes_on (b ∷ bytes) words begun = by (goes_on bytes (words ++ with_word begun []) []) (goes_on bytes words (begun ++ b ∷ [])) (is_space b) refl
   where
-    by : (t : Bool) → is_space b ≡ t → whole (fold after_byte (at words begun) (b ∷ bytes)) ≡ words ++ words_from begun (b ∷ bytes)
-    by true e =
+    by : whole (fold after_byte (at (words ++ with_word begun []) []) bytes) ≡ (words ++ with_word begun []) ++ words_from [] bytes
+        → whole (fold after_byte (at words (begun ++ b ∷ [])) bytes) ≡ words ++ words_from (begun ++ b ∷ []) bytes
+        → (t : Bool) → is_space b ≡ t → whole (fold after_byte (at words begun) (b ∷ bytes)) ≡ words ++ words_from begun (b ∷ bytes)
+    by parted joined true e =
         ap (λ (t : Bool). whole (fold after_byte (if t then at (words ++ with_word begun []) [] else at words (begun ++ b ∷ [])) bytes)) e
-        ∙ goes_on bytes (words ++ with_word begun []) []
+        ∙ parted
         ∙ append_assoc words (with_word begun []) (words_from [] bytes)
         ∙ ap (λ (l : List (List ℕ)). words ++ l) (sym (with_before begun (words_from [] bytes)))
         ∙ ap (λ (t : Bool). words ++ (if t then with_word begun (words_from [] bytes) else words_from (begun ++ b ∷ []) bytes)) (sym e)
-    by false e =
+    by parted joined false e =
         ap (λ (t : Bool). whole (fold after_byte (if t then at (words ++ with_word begun []) [] else at words (begun ++ b ∷ [])) bytes)) e
-        ∙ goes_on bytes words (begun ++ b ∷ [])
+        ∙ joined
         ∙ ap (λ (t : Bool). words ++ (if t then with_word begun (words_from [] bytes) else words_from (begun ++ b ∷ []) bytes)) (sym e)
 
 -- the words so far and the last one are all words
