@@ -6,7 +6,7 @@ use Rattle.vd_cmd_data.specs.Names.{value_len, written_value}
 
 pub nothing_told : (line : List ℕ) → length line < 7 → [] ≡ written_value line
 nothing_told line few =
-    let none : drop 7 line ≡ [] = drop_of_length-le line (omega (arith, few)) in
+    let none : drop 7 line ≡ [] = drop_of_length-le line {i = 7} (omega (arith, few)) in
     sym (ap (λ (value : List ℕ). take (value_len value) value) none)
 
 -- the value of `&line[7..]`
