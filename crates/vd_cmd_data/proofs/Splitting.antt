@@ -1,5 +1,5 @@
 -- The words of a text, which white space parts.
-use Rattle.std.proofs.Common.{◌≡◌, ℕ, Bool, true, false, List, [], ◌∷◌, ◌++◌, Result, if◌then◌else◌, refl, sym, ap, ◌∙◌, subst, append_assoc}
+use Rattle.std.proofs.Common.{◌≡◌, ℕ, Bool, true, false, List, [], ◌∷◌, ◌++◌, Result, if◌then◌else◌, length, refl, sym, ap, ◌∙◌, subst, arith, append_assoc}
 use Rattle.std.specs.List.{fold}
 use Rattle.vd_base.specs.Lexical.{is_space}
 use Rattle.vd_report.specs.LineWords.{line_words, with_word, words_from}
@@ -41,6 +41,10 @@ goes_on (b ∷ bytes) words begun = by (goes_on bytes (words ++ with_word begun 
         ap (λ (t : Bool). whole (fold after_byte (if t then at (words ++ with_word begun []) [] else at words (begun ++ b ∷ [])) bytes)) e
         ∙ joined
         ∙ ap (λ (t : Bool). words ++ (if t then with_word begun (words_from [] bytes) else words_from (begun ++ b ∷ []) bytes)) (sym e)
+
+pub nothing_left : (rest : List ℕ) → length rest ≡ 0 → rest ≡ []
+nothing_left [] is = refl
+nothing_left (b ∷ rest) is = absurd (omega (arith, is))
 
 -- the words so far and the last one are all words
 pub all_split : (text : List ℕ) (split : Split) (words : List (List ℕ)) → split ≡ fold after_byte (record { words = []; begun = [] }) text
