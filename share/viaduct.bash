@@ -25,6 +25,10 @@ _viaduct() {
     HOST | '[HOST]')
       mapfile -t COMPREPLY < <(compgen -W \
         "$(sed -n 's/^ *host  *\([A-Za-z0-9_]*\).*/\1/p' "${COMP_WORDS[2]}" 2> /dev/null)" -- "$word") ;;
+    HOSTS)
+      # names with commas between them: the last one is completed
+      mapfile -t COMPREPLY < <(compgen -P "${word%"${word##*,}"}" -W \
+        "$(sed -n 's/^ *host  *\([A-Za-z0-9_]*\).*/\1/p' "${COMP_WORDS[2]}" 2> /dev/null)" -- "${word##*,}") ;;
     '[messages]')
       mapfile -t COMPREPLY < <(compgen -W messages -- "$word") ;;
     '[each]')
@@ -41,7 +45,7 @@ _viaduct() {
       mapfile -t COMPREPLY < <(compgen -W json -- "$word") ;;
     FILE)
       case ${COMP_WORDS[1]} in
-        needs) _viaduct_files via host ;;
+        needs | rounds) _viaduct_files via host ;;
         column) _viaduct_files csv ;;
         *)
           compopt -o filenames 2> /dev/null
